@@ -1,0 +1,5 @@
+pub mod Date
+pub mod Zone
+pub mod Limits
+pub mod Promise
+pub mod Entry

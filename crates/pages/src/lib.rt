@@ -1,0 +1,1 @@
+// Devices of pages, and numbers and bytes on them.

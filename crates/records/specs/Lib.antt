@@ -1,0 +1,3 @@
+pub mod Command
+pub mod House
+pub mod Promise

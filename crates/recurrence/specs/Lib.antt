@@ -1,0 +1,3 @@
+pub mod Event
+pub mod Span
+pub mod Promise
