@@ -1,3 +1,5 @@
 pub mod Command
 pub mod House
 pub mod Promise
+pub mod Reader
+pub mod Reads

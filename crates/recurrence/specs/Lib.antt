@@ -1,3 +1,5 @@
 pub mod Event
 pub mod Span
 pub mod Promise
+pub mod Week
+pub mod Value

@@ -1,0 +1,2 @@
+// Events by value, and how they repeat.
+pub mod event;
