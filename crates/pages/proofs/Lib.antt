@@ -1,2 +1,3 @@
 pub mod ByteByByte
 pub mod ByteLists
+pub mod Placed

@@ -3,7 +3,7 @@ use mathlib.Core.Bool.{Bool}
 use mathlib.Core.List.{List, [], _∷_, _++_}
 use Prim.Native.Nat.{ℕ, zero, suc, _+_, _*_, _/_, _%_}
 use lib.Dec.{ltb}
-use lib.ListN.{length}
+use lib.ListN.{length, take, drop}
 use Rattle.pages.specs.Lists.{every}
 
 -- eight bytes, the highest first; and bytes with their count before them
@@ -24,3 +24,11 @@ all-bytes bs = every (λ b. ltb b 256) bs
 unfoldable pub from-eight : ℕ → List ℕ → ℕ
 from-eight n [] = n
 from-eight n (b ∷ bs) = from-eight (256 * n + b) bs
+
+-- the front of a row overwritten
+abbrev pub over : List ℕ → List ℕ → List ℕ
+over xs ys = xs ++ drop (length xs) ys
+
+-- a part of a row overwritten, from a place on
+unfoldable pub placed : ℕ → List ℕ → List ℕ → List ℕ
+placed k w ys = take k ys ++ (w ++ drop (k + length w) ys)

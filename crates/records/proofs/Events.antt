@@ -20,7 +20,7 @@ use Rattle.recurrence.specs.Week.{flags, places, days-of, no-days, with-day}
 use Rattle.recurrence.specs.declared.event.Weekdays.{Weekdays}
 use Rattle.recurrence.specs.declared.event.Repeat.{Repeat}
 use Rattle.recurrence.specs.declared.event.Event.{Event}
-use Rattle.recurrence.proofs.Weeks.{flags-with, none-marked, places-set}
+use Rattle.recurrence.proofs.Weeks.{flags-with, none-marked, none-days, places-set}
 use Rattle.records.specs.Command.{put, change, spelled, fits, bit, numbers, repeat-spelled, event-spelled}
 use Rattle.records.specs.declared.command.Part.{Part}
 use Rattle.records.specs.declared.command.Draft.{Draft}
@@ -47,7 +47,7 @@ some-is v z h = cc
 -- weekdays that rising numbers name are those numbers
 marks-days : (n lo : ℕ) (t : List ℕ) (k : ℕ) (on : Weekdays) → climbs n lo 6 t k ≡ true → ((j : ℕ) → lo ≤ j → getD (flags on) j false ≡ false) →
     days-of (marks n t k on) ≡ days-of on ++ numbers-from n t k
-unfolding climbs marks numbers-from
+unfolding climbs marks numbers-from days-of
 marks-days zero lo t k on c h = sym (append-nil (days-of on))
 marks-days (suc n) lo t k on c h =
     let p = and-parts _ _ c in
@@ -58,6 +58,9 @@ marks-days (suc n) lo t k on c h =
     let d : days-of (with-day x on) ≡ days-of on ++ (x ∷ []) = ap (places 0) (flags-with x on) ∙ places-set 0 x (flags on) (omega arith) (λ j g. h j (omega arith)) ∙ ap (λ y. days-of on ++ (y ∷ [])) (omega arith) in
     let i = marks-days n (x + 1) t (k + 8) (with-day x on) (p .1) (λ j g. ap (λ bs. getD bs j false) (flags-with x on) ∙ getD-set-other (flags on) x j true false (omega arith) ∙ h j (omega arith)) in
     i ∙ ap (λ u. u ++ numbers-from n t (k + 8)) d ∙ append-assoc (days-of on) (x ∷ []) (numbers-from n t (k + 8))
+
+marked-days : (n : ℕ) (t : List ℕ) (k : ℕ) → climbs n 0 6 t k ≡ true → days-of (marks n t k no-days) ≡ numbers-from n t k
+marked-days n t k c = marks-days n 0 t k no-days c (λ j g. none-marked j) ∙ ap (λ u. u ++ numbers-from n t k) none-days
 
 record Week-read (t : List ℕ) (k : ℕ) (x : Weekdays × ℕ) : Type 0 where
   pub spelt : Spelt (numbers (days-of (x .0))) t k (x .1)
@@ -70,7 +73,7 @@ week-only t k x h e =
     let wa = row-only 0 7 0 6 t k (a .got) h (a .was) in
     let p : Part = a .got .0 in
     let c : climbs (p .count) 0 6 t (p .start) ≡ true = climbs-steps (p .count) 0 6 t (p .start) ∙ wa .rise in
-    let d : days-of (marks (p .count) t (p .start) no-days) ≡ numbers-in t p = marks-days (p .count) 0 t (p .start) no-days c (λ j g. none-marked j) in
+    let d : days-of (marks (p .count) t (p .start) no-days) ≡ numbers-in t p = marked-days (p .count) t (p .start) c in
     let all : Week-read t k (marks (p .count) t (p .start) no-days, a .got .1) = record { spelt = subst (λ ns. Spelt (numbers ns) t k (a .got .1)) (sym d) (wa .spelt); rise = ap (steps 0 6) d ∙ wa .rise } in
     rw (some-is _ _ (a .goes)) at all
 
@@ -244,7 +247,7 @@ week-back t r ns k e s =
       reads = rw (w .reads);
       rest = w .rest;
       fit = w .fit;
-      means = marks-days (p .count) 0 t (p .start) no-days c (λ j g. none-marked j) ∙ w .holds;
+      means = marked-days (p .count) t (p .start) c ∙ w .holds;
     }
 
 record Repeat-back (r : Meant-repeat) (u t : List ℕ) (k : ℕ) : Type 0 where

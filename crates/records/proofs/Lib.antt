@@ -6,3 +6,4 @@ pub mod Listed
 pub mod Events
 pub mod Inside
 pub mod Right
+pub mod Writing

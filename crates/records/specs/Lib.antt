@@ -3,3 +3,4 @@ pub mod House
 pub mod Promise
 pub mod Reader
 pub mod Reads
+pub mod Written

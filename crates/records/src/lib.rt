@@ -2,3 +2,4 @@
 pub mod command;
 mod field;
 pub mod read;
+pub mod write;

@@ -7,7 +7,7 @@ use native.Mathlib.Omega.{arith}
 use lib.Dec.{eqb}
 use lib.ListN.{length, getD, set}
 use Rattle.std.proofs.shelf.Tests.{ne-eqb}
-use Rattle.recurrence.specs.Week.{flags, places, with-day, no-days}
+use Rattle.recurrence.specs.Week.{flags, places, days-of, with-day, no-days}
 use Rattle.recurrence.specs.declared.event.Weekdays.{Weekdays}
 
 pub flags-with : (n : ℕ) (w : Weekdays) → flags (with-day n w) ≡ set (flags w) n true
@@ -33,12 +33,14 @@ none-marked (suc (suc (suc (suc (suc (suc zero)))))) = refl
 none-marked (suc (suc (suc (suc (suc (suc (suc j))))))) = refl
 
 places-none : (k : ℕ) (bs : List Bool) → ((j : ℕ) → getD bs j false ≡ false) → places k bs ≡ []
+unfolding places
 places-none k [] h = refl
 places-none k (true ∷ bs) h = let e : true ≡ false = h 0 in absurd (let no : _≡_ {A = ℕ} 0 1 = cc in omega arith)
 places-none k (false ∷ bs) h = places-none (suc k) bs (λ j. h (suc j))
 
 -- what is marked past all others comes last
 pub places-set : (k i : ℕ) (bs : List Bool) → i < length bs → ((j : ℕ) → i ≤ j → getD bs j false ≡ false) → places k (set bs i true) ≡ places k bs ++ ((k + i) ∷ [])
+unfolding places
 places-set k i [] l h = absurd (omega arith)
 places-set k zero (b ∷ bs) l h =
     let e : b ≡ false = h 0 (omega arith) in
@@ -51,3 +53,7 @@ places-set k (suc i) (true ∷ bs) l h =
 places-set k (suc i) (false ∷ bs) l h =
     let z : suc k + i ≡ k + suc i = omega arith in
     places-set (suc k) i bs (omega arith) (λ j q. h (suc j) (omega arith)) ∙ rw z
+
+pub none-days : days-of no-days ≡ []
+unfolding days-of places
+none-days = refl

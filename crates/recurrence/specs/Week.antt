@@ -13,12 +13,12 @@ abbrev pub flags : Weekdays → List Bool
 flags w = w .monday ∷ w .tuesday ∷ w .wednesday ∷ w .thursday ∷ w .friday ∷ w .saturday ∷ w .sunday ∷ []
 
 -- the places of what is true, from one on
-abbrev pub places : ℕ → List Bool → List ℕ
+unfoldable pub places : ℕ → List Bool → List ℕ
 places k [] = []
 places k (b ∷ bs) = pick b (k ∷ places (suc k) bs) (places (suc k) bs)
 
 -- the numbers of weekdays, rising
-abbrev pub days-of : Weekdays → List ℕ
+unfoldable pub days-of : Weekdays → List ℕ
 days-of w = places 0 (flags w)
 
 abbrev pub no-days : Weekdays

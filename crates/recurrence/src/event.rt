@@ -1,6 +1,8 @@
 // An event by value, without its title and the days left out, which are lists and stay where they are lent.
 ghost use mathlib.Core.Path.{_≡_};
-ghost use Rattle.recurrence.specs.Week.{with-day, no-days};
+ghost use mathlib.Core.Bool.{false};
+ghost use lib.ListN.{getD};
+ghost use Rattle.recurrence.specs.Week.{with-day, no-days, flags};
 
 
 // On which days an event falls, from its first to its last.
@@ -58,6 +60,21 @@ impl Weekdays {
             5 => Weekdays { saturday: true, ..self },
             6 => Weekdays { sunday: true, ..self },
             _ => self,
+        }
+    }
+
+    pub fn has(self, day: u64) -> bool
+        ensures { λ r. ⌜ r ≡ getD (flags self) day false ⌝ }
+    {
+        match day {
+            0 => self.monday,
+            1 => self.tuesday,
+            2 => self.wednesday,
+            3 => self.thursday,
+            4 => self.friday,
+            5 => self.saturday,
+            6 => self.sunday,
+            _ => false,
         }
     }
 }
