@@ -12,6 +12,7 @@ use Rattle.engine.specs.declared.Told.{Told}
 use Rattle.engine.specs.declared.Told.the-variants.{Read, Write, Shows, Done, No}
 use Rattle.pages.specs.Run.{Act, Event, done, next, on, page, read, refused, said, shows, write}
 
+-- what the world tells is a kind and some bytes: 0 power, with a number of eight bytes, the highest first; 1 a command; 2 a page; 3 go on
 unfoldable pub event-of : ℕ → List ℕ → Event
 event-of k bs = pick (eqb k 0) (on (from-eight 0 (take 8 bs))) (pick (eqb k 1) (said bs) (pick (eqb k 2) (page bs) next))
 

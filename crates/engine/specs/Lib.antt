@@ -1,2 +1,4 @@
-pub mod Promise
+pub mod Acts
+pub mod Own
 pub mod Entry
+pub mod Promise

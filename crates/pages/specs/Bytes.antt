@@ -20,7 +20,7 @@ with-length bs = eight (length bs) ++ bs
 abbrev pub all-bytes : List ℕ → Bool
 all-bytes bs = every (λ b. ltb b 256) bs
 
--- what the world tells is a kind and some bytes: 0 power, with a number of eight bytes, the highest first, 1 a command, 2 a page, 3 go on
+-- the number of bytes, the highest first, behind a number read before them
 unfoldable pub from-eight : ℕ → List ℕ → ℕ
 from-eight n [] = n
 from-eight n (b ∷ bs) = from-eight (256 * n + b) bs

@@ -82,5 +82,9 @@ core (free ps k f t) = false
 core (next-one a t) = false
 core (shown a n) = true
 
+-- no command at all: what is known before the first one is kept
+abbrev pub nothing : Command → Bool
+nothing c = false
+
 abbrev pub everything : Command → Bool
 everything c = true
