@@ -7,6 +7,7 @@ use lib.Dec.{eqb, leb}
 use lib.ListN.{length, take, drop}
 use Rattle.pages.specs.Lists.{pick}
 use Rattle.pages.specs.Bytes.{from-eight}
+use Rattle.engine.specs.Acts.{told-number}
 use Rattle.engine.specs.Own.{own}
 use Rattle.engine.specs.declared.Told.{Told}
 use Rattle.engine.specs.declared.Told.the-variants.{Read, Write, Shows, Done, No}
@@ -31,3 +32,8 @@ Step-says memory kind bytes out false r memory₁ out₁ = (r ≡ No 0) × (memo
 
 unfoldable pub step-fits : (memory : List ℕ) (kind : ℕ) (bytes out : List ℕ) → Bool
 step-fits memory kind bytes out = eqb (length memory) (length (own .start)) && (leb kind 3 && leb 131072 (length out))
+
+-- the same with what is told as one number
+unfoldable pub Step-numbered : (memory : List ℕ) (kind : ℕ) (bytes out : List ℕ) → ℕ → (memory₁ out₁ : List ℕ) → Type 0
+Step-numbered memory kind bytes out r memory₁ out₁ =
+    (t : Told) × Step-says memory kind bytes out (step-fits memory kind bytes out) t memory₁ out₁ × (r ≡ told-number t)

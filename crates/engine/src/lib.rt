@@ -1,11 +1,12 @@
 // The house as a machine: told one thing, it does one act.
 ghost use mathlib.Core.Path.{_≡_};
-ghost use Rattle.engine.specs.Entry.{Step-says, step-fits};
+ghost use Rattle.engine.specs.Acts.{told-number};
+ghost use Rattle.engine.specs.Entry.{Step-says, Step-numbered, step-fits};
 ghost use Rattle.engine.specs.Own.{own};
 ghost use Rattle.engine.specs.Promise.{Whole};
 ghost use Rattle.records.specs.Command.{nothing};
 
-pub mod act;
+mod act;
 mod machine;
 
 use act::heard;
@@ -48,4 +49,25 @@ pub fn step(memory: &mut [u64], kind: u64, bytes: &[u8], out: &mut [u8]) -> Told
     }
     let event = heard(kind, bytes);
     told(turn(memory, event, bytes))
+}
+
+// What is told as one number: eight times its own, and 0 for done, 1 read, 2 write, 3 shows, 4 no.
+fn numbered(told: Told) -> u64
+    ensures { λ r. ⌜ r ≡ told-number told ⌝ }
+{
+    match told {
+        Told::Done => 0,
+        Told::Read(place) => 8 * (place % 2305843009213693952) + 1,
+        Told::Write(place) => 8 * (place % 2305843009213693952) + 2,
+        Told::Shows(size) => 8 * (size % 2305843009213693952) + 3,
+        Told::No(number) => 8 * (number % 2305843009213693952) + 4,
+    }
+}
+
+// The same step for C, with its answer as one number.
+#[unsafe(no_mangle)]
+pub extern "C" fn boomdate_step(memory: &mut [u64], kind: u64, bytes: &[u8], out: &mut [u8]) -> u64
+    ensures { λ r. ⌜ Step-numbered (now (memory .entry)) kind (now (bytes .entry)) (now (out .entry)) r (now (memory .exit)) (now (out .exit)) ⌝ }
+{
+    numbered(step(memory, kind, bytes, out))
 }
