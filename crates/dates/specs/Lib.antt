@@ -3,3 +3,5 @@ pub mod Zone
 pub mod Limits
 pub mod Promise
 pub mod Entry
+pub mod Calendar
+pub mod Civil
