@@ -1,10 +1,14 @@
 -- What is promised of days and dates, proved: `grind` goes by the cases of the tests and divides by numerals.
 -- Assumes nothing.
-use mathlib.Core.Path.{_≡_, sym, _∙_}
-use Prim.Native.Nat.{ℕ, suc, _+_, _*_, _/_, _%_, _≤_, _<_}
+use mathlib.Core.Path.{_≡_, refl, sym, _∙_}
+use Prim.Native.Nat.{ℕ, suc, _+_, _-_, _*_, _/_, _%_, _≤_, _<_}
+use mathlib.Core.Logic.{_⊎_, inl, inr}
+use lib.Dec.{eqb, leb}
 use native.Mathlib.Omega.{arith}
 use Rattle.std.proofs.shelf.Ways.{tells}
-use Rattle.dates.specs.Date.{date-of, day-of}
+use Rattle.std.proofs.shelf.Tests.{cases-lt}
+use Rattle.pages.specs.Lists.{pick}
+use Rattle.dates.specs.Date.{date-of, day-of, months, weekday, nth-weekday}
 use Rattle.dates.specs.Calendar.{In, month-days}
 use Rattle.dates.specs.Promise.{Dates-right, Dates-back, Leap-days, leap}
 
@@ -61,7 +65,7 @@ unfolding Dates-back Dates-right
 dates-back y m d a b c e f =
     let n : ℕ = day-of y m d in
     let t : (y ≡ date-of n .year) × (m ≡ date-of n .month) × (d ≡ date-of n .day) =
-    told y m d n (record { year = a; low = b; high = c; one = e; inside = inside y m d a b c e f }) (λ i. n) in
+    told y m d n (record { year = a; low = b; high = c; one = e; inside = inside y m d a b c e f }) refl in
     (sym (t .0), sym (t .1), sym (t .2))
 
 pub month-small : (y m : ℕ) → month-days y m ≤ 31
@@ -94,3 +98,48 @@ next-year y m d a h l = grind (arith, tells)
 pub first-in : (y m : ℕ) → 2000 ≤ y → 1 ≤ m → m ≤ 12 → In y m 1
 unfolding month-days
 first-in y m a b c = record { year = a; low = b; high = c; one = omega arith; inside = grind (arith, tells) }
+
+-- the days of a month follow its first, and those past its end are of the next
+pub from-first : (y m d : ℕ) → 2000 ≤ y → 1 ≤ m → 1 ≤ d → day-of y m d ≡ day-of y m 1 + (d - 1)
+unfolding day-of
+from-first y m d a b c = grind (arith, tells)
+
+pub month-long : (y m : ℕ) → 28 ≤ month-days y m
+unfolding month-days
+month-long y m = grind (arith, tells)
+
+pub months-of : (y m d : ℕ) → In y m d → months (day-of y m d) ≡ 12 * y + m
+months-of y m d a = let t = told y m d (day-of y m d) a refl in omega (arith, t .0, t .1)
+
+months-past : (y m d : ℕ) → 2000 ≤ y → 1 ≤ m → m ≤ 12 → month-days y m < d → d ≤ month-days y m + 28 → months (day-of y m d) ≡ 12 * y + m + 1
+months-past y m d a b c h l =
+    let z : ℕ = y + m / 12 in
+    let n : ℕ = m % 12 + 1 in
+    let e : ℕ = d - month-days y m in
+    let i : In z n e = record { year = omega arith; low = omega arith; high = omega arith; one = omega arith; inside = omega (arith, month-long z n) } in
+    let p : day-of z n e ≡ day-of y m d =
+    omega (arith, month-on y m a b c, from-first z n e (i .year) (i .low) (i .one), from-first y m d a b (omega arith)) in
+    let q : months (day-of z n e) ≡ 12 * z + n = months-of z n e i in
+    let r : 12 * z + n ≡ 12 * y + m + 1 = omega arith in
+    rw p at (q ∙ r)
+
+pub in-month : (y m d : ℕ) → 2000 ≤ y → 1 ≤ m → m ≤ 12 → 1 ≤ d → d ≤ month-days y m + 28
+    → ((d ≤ month-days y m) × (months (day-of y m d) ≡ 12 * y + m)) ⊎ ((month-days y m < d) × (months (day-of y m d) ≡ 12 * y + m + 1))
+in-month y m d a b c e h =
+    elim (cases-lt (month-days y m) d) [
+      | inl l ↦ inr (l, months-past y m d a b c l h)
+      | inr l ↦ inl (l, months-of y m d (record { year = a; low = b; high = c; one = e; inside = l }))
+    ]
+
+-- the day that is found from the weekday's first in the month is the one that is defined
+pub nth-day : (y m w k f d : ℕ) → 2000 ≤ y → 1 ≤ m → m ≤ 12 → 1 ≤ k → k ≤ 5 → f ≡ 1 + (w + 7 - weekday (day-of y m 1)) % 7
+    → d ≡ pick (eqb k 5) (pick (leb (f + 28) (month-days y m)) (f + 28) (f + 21)) (f + 7 * (k - 1)) → In y m d × (day-of y m d ≡ nth-weekday y m w k)
+unfolding nth-weekday
+nth-day y m w k f d a b c g h p q =
+    let l = month-long y m in
+    let i : In y m d = record { year = a; low = b; high = c; one = grind (arith, tells); inside = grind (arith, tells) } in
+    let n = from-first y m d a b (i .one) in
+    let e : day-of y m (f + 28) ≡ day-of y m 1 + (w + 7 - weekday (day-of y m 1)) % 7 + 28 = omega (arith, from-first y m (f + 28) a b (omega arith)) in
+    let s = rw e at (in-month y m (f + 28) a b c (omega arith) (omega arith)) in
+    let t = months-of y m 1 (first-in y m a b c) in
+    (i, grind (arith, tells))

@@ -1,5 +1,7 @@
 -- The code's dates, and the days and dates of the definitions. Assumes nothing: these are definitions.
 use mathlib.Core.Path.{_≡_}
+use mathlib.Core.Bool.{Bool, _&&_}
+use lib.Dec.{leb}
 use Prim.Native.Nat.{ℕ, _≤_}
 use Rattle.dates.specs.Date.{date-of, day-of}
 use Rattle.dates.specs.declared.civil.Date.{Date}
@@ -22,3 +24,7 @@ pub record Of (x : Date) (n : ℕ) : Type 0 where
 abbrev pub told : Reply → ℕ
 told (Tells n) = n
 told (Refused k) = 0
+
+-- a weekday, and which of its month: the first to the fourth, or (5) the last
+abbrev pub an-nth : ℕ → ℕ → Bool
+an-nth w k = leb w 6 && (leb 1 k && leb k 5)

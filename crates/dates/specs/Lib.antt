@@ -5,3 +5,4 @@ pub mod Promise
 pub mod Entry
 pub mod Calendar
 pub mod Civil
+pub mod Worked

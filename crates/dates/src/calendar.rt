@@ -3,8 +3,8 @@ ghost use mathlib.Core.Path.{_≡_};
 ghost use mathlib.Core.Bool.{true, false};
 ghost use Prim.Native.Nat.{ℕ, _+_, _-_, _*_, _/_, _%_, _<_, _≤_};
 ghost use Rattle.std.specs.Options.{Cases};
-ghost use Rattle.dates.specs.Date.{date-of, day-of};
-ghost use Rattle.dates.specs.Calendar.{In, a-date, month-days};
+ghost use Rattle.dates.specs.Date.{date-of, day-of, months};
+ghost use Rattle.dates.specs.Calendar.{In, a-date, month-days, year-after, month-after};
 ghost use Rattle.dates.specs.Civil.{number-of, Of};
 ghost use Rattle.dates.specs.Promise.{leap};
 use crate::civil::Date;
@@ -32,7 +32,7 @@ fn is_leap(year: u64) -> bool
     year % 4 == 0 && (year % 100 != 0 || year % 400 == 0)
 }
 
-fn month_length(year: u64, month: u64) -> u64
+pub(crate) fn month_length(year: u64, month: u64) -> u64
     requires { ⌜ 1 ≤ month ⌝ ∗ ⌜ month ≤ 12 ⌝ }
     ensures { λ r. ⌜ r ≡ month-days year month ⌝ }
 {
@@ -63,9 +63,10 @@ fn parts(day: u64) -> (u64, u64, u64)
     }
 }
 
-fn dated(year: u64, month: u64, day: u64) -> Date
+pub(crate) fn dated(year: u64, month: u64, day: u64) -> Date
     requires { ⌜ In year month day ⌝ ∗ ⌜ year ≤ 2199 ⌝ }
-    ensures { λ r. ⌜ Of r (day-of year month day) ⌝ }
+    ensures of { λ r. ⌜ Of r (day-of year month day) ⌝ }
+    ensures is { λ r. ⌜ (r .year ≡ year) × (r .month ≡ month) × (r .day ≡ day) ⌝ }
 {
     Date { year, month, day }
 }
@@ -124,5 +125,35 @@ impl Date {
         } else {
             None
         }
+    }
+
+    // The first of its month.
+    pub fn first_of_month(self) -> Date
+        ensures { λ r. ⌜ Of r (day-of (self .year) (self .month) 1) ⌝ }
+    {
+        dated(self.year, self.month, 1)
+    }
+
+    // The months from the year 0 on, so that the next month has the next number.
+    pub fn months(self) -> u64
+        ensures { λ r. ⌜ r ≡ months (number-of self) ⌝ }
+    {
+        12 * self.year + self.month
+    }
+
+    // The same day of the month some months later; none where that month has no such day.
+    pub fn months_on(self, count: u64) -> Option<Date>
+        ensures { λ r. ⌜ Cases r (a-date (year-after (self .year) (self .month) count) (month-after (self .month) count) (self .day) ≡ false) (λ x. (months (number-of x) ≡ months (number-of self) + count) × (x .day ≡ self .day)) ⌝ }
+    {
+        if count >= 12 * (LAST_YEAR - FIRST_YEAR + 1) {
+            return None;
+        }
+        let months = self.month - 1 + count;
+        let year = self.year + months / 12;
+        let month = months % 12 + 1;
+        if year > LAST_YEAR || self.day > month_length(year, month) {
+            return None;
+        }
+        Some(dated(year, month, self.day))
     }
 }

@@ -1,11 +1,17 @@
 // Days, dates and zones.
 ghost use mathlib.Core.Path.{_≡_};
+ghost use Prim.Native.Nat.{_-_, _^_};
+ghost use Rattle.pages.specs.Lists.{pick};
+ghost use Rattle.dates.specs.Date.{day-of};
+ghost use Rattle.dates.specs.Calendar.{a-date};
 ghost use Rattle.dates.specs.Civil.{told};
 ghost use Rattle.dates.specs.Entry.{date-reply};
 ghost use Rattle.dates.specs.Promise.{Dates-right, Dates-back, Leap-days};
+ghost use Rattle.dates.specs.Worked.{Worked};
 
-mod calendar;
+pub mod calendar;
 pub mod civil;
+pub mod weekdays;
 pub mod zone;
 
 use civil::Date;
@@ -44,11 +50,28 @@ pub extern "C" fn boomdate_date(day: u64) -> u64
     }
 }
 
+// The day of a date for C; the largest number where it is none.
+#[unsafe(no_mangle)]
+pub extern "C" fn boomdate_day(year: u64, month: u64, day: u64) -> u64
+    ensures { λ r. ⌜ r ≡ pick (a-date year month day) (day-of year month day) (2 ^ 64 - 1) ⌝ }
+{
+    match Date::new(year, month, day) {
+        Some(date) => date.to_day(),
+        None => u64::MAX,
+    }
+}
+
 // Days and dates are each the other's, and a leap year has a day more.
 pub fn dates_right() -> u8
     ensures right { λ _. ⌜ Dates-right ⌝ }
     ensures back { λ _. ⌜ Dates-back ⌝ }
     ensures leap { λ _. ⌜ Leap-days ⌝ }
+{
+    0
+}
+
+pub fn worked_examples() -> u8
+    ensures { λ _. ⌜ Worked ⌝ }
 {
     0
 }

@@ -1,3 +1,4 @@
+use mathlib.Core.Path.{refl}
 use native.Mathlib.Omega.{arith}
 use Rattle.dates.proofs.Own.{of-self}
 use Rattle.dates.proofs.Dates.{month-small}
@@ -10,4 +11,4 @@ ghost-result c =
     (i .year, (c .pre .1, (i .low, (i .high, (i .one, (omega arith, (i .inside, tt)))))))
 
 pub returns : need.returns
-returns c = of-self _
+returns c = record { of = of-self _; is = (refl, refl, refl) }

@@ -12,4 +12,4 @@ pub returns : need.returns
 returns c =
     let e = c .parts-year .ensures in
     let p = of-parts _ _ _ (c .args .day) (e .0) (e .1) (e .2) (c .if-day-gt-LAST-DAY .left) in
-    rw (p .number) at (c .dated .ensures)
+    rw (p .number) at (c .dated .ensures .of)

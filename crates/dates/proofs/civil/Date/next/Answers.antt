@@ -16,17 +16,17 @@ dated-requires-then-self-lt-LAST-YEAR c κs = (first-in _ _ (omega arith) (omega
 pub returns-then-self-month-length : need.returns-then-self-month-length
 returns-then-self-month-length c =
     let x = c .args .self in
-    rw (next-day (x .year) (x .month) (x .day) (dated x)) at (c .dated .ensures)
+    rw (next-day (x .year) (x .month) (x .day) (dated x)) at (c .dated .ensures .of)
 
 pub returns-then-self-lt12 : need.returns-then-self-lt12
 returns-then-self-lt12 c =
     let x = c .args .self in
-    rw (next-month (x .year) (x .month) (x .day) (dated x) (omega arith) (omega arith)) at (c .dated-then-self-lt12 .ensures)
+    rw (next-month (x .year) (x .month) (x .day) (dated x) (omega arith) (omega arith)) at (c .dated-then-self-lt12 .ensures .of)
 
 pub returns-then-self-lt-LAST-YEAR : need.returns-then-self-lt-LAST-YEAR
 returns-then-self-lt-LAST-YEAR c =
     let x = c .args .self in
-    rw (next-year (x .year) (x .month) (x .day) (dated x) (omega arith) (omega arith)) at (c .dated-then-self-lt-LAST-YEAR .ensures)
+    rw (next-year (x .year) (x .month) (x .day) (dated x) (omega arith) (omega arith)) at (c .dated-then-self-lt-LAST-YEAR .ensures .of)
 
 pub returns-else-self-lt-LAST-YEAR : need.returns-else-self-lt-LAST-YEAR
 unfolding day-of month-days leap
