@@ -12,6 +12,12 @@ use Rattle.dates.specs.declared.Reply.the-variants.{Tells, Refused}
 abbrev pub number-of : Date → ℕ
 number-of x = day-of (x .year) (x .month) (x .day)
 
+-- x is this date
+pub record Is (x : Date) (y m d : ℕ) : Type 0 where
+  pub year : x .year ≡ y
+  pub month : x .month ≡ m
+  pub day : x .day ≡ d
+
 -- x is the date of day n
 pub record Of (x : Date) (n : ℕ) : Type 0 where
   pub year : x .year ≡ date-of n .year

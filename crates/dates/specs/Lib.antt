@@ -6,3 +6,5 @@ pub mod Entry
 pub mod Calendar
 pub mod Civil
 pub mod Worked
+pub mod Text
+pub mod Read

@@ -5,7 +5,7 @@ ghost use Prim.Native.Nat.{ℕ, _+_, _-_, _*_, _/_, _%_, _<_, _≤_};
 ghost use Rattle.std.specs.Options.{Cases};
 ghost use Rattle.dates.specs.Date.{date-of, day-of, months};
 ghost use Rattle.dates.specs.Calendar.{In, a-date, month-days, year-after, month-after};
-ghost use Rattle.dates.specs.Civil.{number-of, Of};
+ghost use Rattle.dates.specs.Civil.{number-of, Is, Of};
 ghost use Rattle.dates.specs.Promise.{leap};
 use crate::civil::Date;
 
@@ -66,7 +66,7 @@ fn parts(day: u64) -> (u64, u64, u64)
 pub(crate) fn dated(year: u64, month: u64, day: u64) -> Date
     requires { ⌜ In year month day ⌝ ∗ ⌜ year ≤ 2199 ⌝ }
     ensures of { λ r. ⌜ Of r (day-of year month day) ⌝ }
-    ensures is { λ r. ⌜ (r .year ≡ year) × (r .month ≡ month) × (r .day ≡ day) ⌝ }
+    ensures is { λ r. ⌜ Is r year month day ⌝ }
 {
     Date { year, month, day }
 }
@@ -74,7 +74,7 @@ pub(crate) fn dated(year: u64, month: u64, day: u64) -> Date
 impl Date {
     // None for what is no date of the calendar, or of another time than 2000 to 2199.
     pub fn new(year: u64, month: u64, day: u64) -> Option<Date>
-        ensures { λ r. ⌜ Cases r (a-date year month day ≡ false) (λ x. (a-date year month day ≡ true) × Of x (day-of year month day)) ⌝ }
+        ensures { λ r. ⌜ Cases r (a-date year month day ≡ false) (λ x. (a-date year month day ≡ true) × Is x year month day × Of x (day-of year month day)) ⌝ }
     {
         if year < FIRST_YEAR || year > LAST_YEAR || month < 1 || month > 12 {
             return None;

@@ -11,6 +11,8 @@ ghost use Rattle.dates.specs.Worked.{Worked};
 
 pub mod calendar;
 pub mod civil;
+pub mod read;
+pub mod text;
 pub mod weekdays;
 pub mod zone;
 

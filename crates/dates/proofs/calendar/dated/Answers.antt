@@ -11,4 +11,4 @@ ghost-result c =
     (i .year, (c .pre .1, (i .low, (i .high, (i .one, (omega arith, (i .inside, tt)))))))
 
 pub returns : need.returns
-returns c = record { of = of-self _; is = (refl, refl, refl) }
+returns c = record { of = of-self _; is = record { year = refl; month = refl; day = refl } }

@@ -17,4 +17,4 @@ returns c =
     let e = c .dated .ensures .is in
     let a = own-months (c .args .self) in
     let b = own-months (c .dated .result) in
-    (omega arith, e .2)
+    (omega arith, e .day)

@@ -13,4 +13,4 @@ returns-then-day-lt1 c = grind (arith, tells)
 
 pub returns : need.returns
 unfolding a-date
-returns c = (grind (arith, tells), c .dated .ensures .of)
+returns c = (grind (arith, tells), c .dated .ensures .is, c .dated .ensures .of)

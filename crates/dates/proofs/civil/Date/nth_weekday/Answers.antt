@@ -30,4 +30,4 @@ returns c =
     let x = c .args .self in
     let n = found x (c .first-of-month .result) (c .args .weekday) (c .args .nth) _ _ _ (c .first-of-month .ensures) (omega arith) (omega arith) (c .weekday .ensures) (c .month-length .ensures) (c .nth-day-day .ensures) in
     let e = c .dated .ensures in
-    (rw (n .1) at (e .of), e .is .0, e .is .1)
+    (rw (n .1) at (e .of), e .is .year, e .is .month)
