@@ -33,21 +33,25 @@ date-parts t =
     (then (two-at t 0) (λ c. then (two-at t 2) (λ y. then (two-at t 5) (λ m. then (two-at t 8) (λ d. Some (100 * c + y, m, d))))))
     None
 
+abbrev pub date-checked : Option (ℕ × ℕ × ℕ) → Result (ℕ × ℕ × ℕ) Misread
+date-checked None = Err NoDate
+date-checked (Some p) =
+    pick (leb 2000 (p .0) && leb (p .0) 2199) (pick (leb 1 (p .1) && leb (p .1) 12) (pick (a-date (p .0) (p .1) (p .2)) (Ok p) (Err Day)) (Err Month)) (Err Year)
+
+-- the year, month and day
 abbrev pub date-read : List ℕ → Result (ℕ × ℕ × ℕ) Misread
-date-read t = elim (date-parts t) [
-  | None ↦ Err NoDate
-  | Some p ↦ pick (leb 2000 (p .0) && leb (p .0) 2199) (pick (leb 1 (p .1) && leb (p .1) 12) (pick (a-date (p .0) (p .1) (p .2)) (Ok p) (Err Day)) (Err Month)) (Err Year)
-]
+date-read t = date-checked (date-parts t)
 
 abbrev pub clock-parts : List ℕ → Option (ℕ × ℕ)
 clock-parts t = pick (eqb (length t) 5 && is-at t 2 58) (then (two-at t 0) (λ h. then (two-at t 3) (λ m. Some (h, m)))) None
 
+abbrev pub clock-checked : Option (ℕ × ℕ) → Result ℕ Misread
+clock-checked None = Err NoClock
+clock-checked (Some p) = pick (leb (p .0) 23) (pick (leb (p .1) 59) (Ok (60 * p .0 + p .1)) (Err Minute)) (Err Hour)
+
 -- the minute of the day
 abbrev pub clock-read : List ℕ → Result ℕ Misread
-clock-read t = elim (clock-parts t) [
-  | None ↦ Err NoClock
-  | Some p ↦ pick (leb (p .0) 23) (pick (leb (p .1) 59) (Ok (60 * p .0 + p .1)) (Err Minute)) (Err Hour)
-]
+clock-read t = clock-checked (clock-parts t)
 
 -- the number that the first k bytes write, one to three digits; only 0 begins with one
 abbrev pub hours-at : List ℕ → ℕ → Option ℕ
@@ -62,9 +66,10 @@ length-parts t =
     (then (hours-at t (length t - 3)) (λ h. then (two-at t (length t - 2)) (λ m. Some (h, m))))
     None
 
+abbrev pub length-checked : Option (ℕ × ℕ) → Result ℕ Misread
+length-checked None = Err NoLength
+length-checked (Some p) = pick (leb (p .1) 59) (Ok (60 * p .0 + p .1)) (Err Minute)
+
 -- the minutes of a length
 abbrev pub length-read : List ℕ → Result ℕ Misread
-length-read t = elim (length-parts t) [
-  | None ↦ Err NoLength
-  | Some p ↦ pick (leb (p .1) 59) (Ok (60 * p .0 + p .1)) (Err Minute)
-]
+length-read t = length-checked (length-parts t)

@@ -4,6 +4,7 @@ ghost use Prim.Native.Nat.{_<_, _≤_};
 ghost use Rattle.std.specs.Options.{Cases as BySome};
 ghost use Rattle.std.specs.Results.{Cases};
 ghost use Rattle.std.specs.declared.result.Result.the-variants.{Ok, Err};
+ghost use Rattle.dates.specs.Back.{Date-read-back, Clock-read-back, Length-read-back};
 ghost use Rattle.dates.specs.Read.{digit-at, two-at, is-at, date-parts, date-read, clock-parts, clock-read, hours-at, length-parts, length-read};
 use crate::calendar::FIRST_YEAR;
 use crate::calendar::LAST_YEAR;
@@ -156,4 +157,13 @@ pub fn read_length(text: &[u8]) -> Result<u64, Misread>
         return Err(Misread::Minute);
     }
     Ok(60 * hours + minutes)
+}
+
+// What is written is read back.
+pub fn reads_back() -> u8
+    ensures date { λ _. ⌜ Date-read-back ⌝ }
+    ensures clock { λ _. ⌜ Clock-read-back ⌝ }
+    ensures length { λ _. ⌜ Length-read-back ⌝ }
+{
+    0
 }
