@@ -2,6 +2,7 @@
 use mathlib.Core.Bool.{Bool, _&&_}
 use mathlib.Core.List.{List}
 use Prim.Native.Nat.{ℕ, _+_, _*_, _-_}
+use lib.Chars.{codes}
 use lib.Dec.{eqb, ltb, leb}
 use lib.ListN.{length, getD}
 use Rattle.std.specs.declared.option.Option.{Option}
@@ -73,3 +74,14 @@ length-checked (Some p) = pick (leb (p .1) 59) (Ok (60 * p .0 + p .1)) (Err Minu
 -- the minutes of a length
 abbrev pub length-read : List ℕ → Result ℕ Misread
 length-read t = length-checked (length-parts t)
+
+-- what is said of a text that was misread
+abbrev pub said : Misread → List ℕ
+said NoDate = codes "no date: it is not written as 2026-03-30"
+said NoClock = codes "no time of day: it is not written as 07:00"
+said NoLength = codes "no length: it is not written as 2:00"
+said Year = codes "no date: the year is not 2000 to 2199"
+said Month = codes "no date: the month is not 1 to 12"
+said Day = codes "no date: the month has no such day"
+said Hour = codes "no time of day: the hour is not 0 to 23"
+said Minute = codes "the minutes are not 0 to 59"

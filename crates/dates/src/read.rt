@@ -3,9 +3,10 @@ ghost use mathlib.Core.Path.{_≡_};
 ghost use Prim.Native.Nat.{_<_, _≤_};
 ghost use Rattle.std.specs.Options.{Cases as BySome};
 ghost use Rattle.std.specs.Results.{Cases};
+ghost use Rattle.std.specs.declared.option.Option.the-variants.{Some};
 ghost use Rattle.std.specs.declared.result.Result.the-variants.{Ok, Err};
 ghost use Rattle.dates.specs.Back.{Date-read-back, Clock-read-back, Length-read-back};
-ghost use Rattle.dates.specs.Read.{digit-at, two-at, is-at, date-parts, date-read, clock-parts, clock-read, hours-at, length-parts, length-read};
+ghost use Rattle.dates.specs.Read.{digit-at, two-at, is-at, date-parts, date-read, clock-parts, clock-read, hours-at, length-parts, length-read, said};
 use crate::calendar::FIRST_YEAR;
 use crate::calendar::LAST_YEAR;
 use crate::civil::Date;
@@ -24,20 +25,26 @@ pub enum Misread {
     Minute,
 }
 
+fn message(misread: Misread) -> &'static str
+    ensures { λ r. ⌜ now r ≡ said misread ⌝ }
+{
+    match misread {
+        Misread::NoDate => "no date: it is not written as 2026-03-30",
+        Misread::NoClock => "no time of day: it is not written as 07:00",
+        Misread::NoLength => "no length: it is not written as 2:00",
+        Misread::Year => "no date: the year is not 2000 to 2199",
+        Misread::Month => "no date: the month is not 1 to 12",
+        Misread::Day => "no date: the month has no such day",
+        Misread::Hour => "no time of day: the hour is not 0 to 23",
+        Misread::Minute => "the minutes are not 0 to 59",
+    }
+}
+
 pub impl fmt::Display for Misread as MisreadDisplay {
+    ghost shown = { λ e. Some (said e) };
+
     fn fmt<W: fmt::Write>(&self, f: &mut fmt::Formatter<W>) -> fmt::Result {
-        f.write_str(
-            match self {
-                Misread::NoDate => "no date: it is not written as 2026-03-30",
-                Misread::NoClock => "no time of day: it is not written as 07:00",
-                Misread::NoLength => "no length: it is not written as 2:00",
-                Misread::Year => "no date: the year is not 2000 to 2199",
-                Misread::Month => "no date: the month is not 1 to 12",
-                Misread::Day => "no date: the month has no such day",
-                Misread::Hour => "no time of day: the hour is not 0 to 23",
-                Misread::Minute => "the minutes are not 0 to 59",
-            },
-        )
+        f.write_str(message(*self))
     }
 }
 
