@@ -1,2 +1,3 @@
 // Devices of pages, and numbers and bytes on them.
 pub mod bytes;
+pub mod hex;
