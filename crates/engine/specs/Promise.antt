@@ -15,4 +15,4 @@ unfoldable pub Whole : (Command → Bool) → Engine → Type 0
 Whole known e =
     Steady e
     × ((pages : ℕ) (is : List Item) → 256 ≤ pages → pages ≤ 1048576 → length is ≤ 4294967296 → proper false is ≡ true →
-        Right (May known pages) (λ w. w) e (new-world pages) (record { zones = so-many 16 no-zone; people = [] }) is)
+    Right (May known pages) (λ w. w) e (new-world pages) (record { zones = so-many 16 no-zone; people = [] }) is)

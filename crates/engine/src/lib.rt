@@ -8,6 +8,8 @@ ghost use Rattle.records.specs.Command.{nothing};
 
 mod act;
 mod machine;
+#[cfg(test)]
+mod tests;
 
 use act::heard;
 use act::told;

@@ -61,7 +61,7 @@ unfoldable pub left : Device → List Write → ℕ → Device
 left d [] c = two (d .first) (d .second)
 left d (w ∷ ws) c =
     pick (eqb c 1) (with-page d (w .side) (w .at) (w .page))
-        (pick (eqb c 2) (with-page d (w .side) (w .at) (half (w .page) (page-at (side-of d (w .side)) (w .at)))) (two (d .first) (d .second)))
+    (pick (eqb c 2) (with-page d (w .side) (w .at) (half (w .page) (page-at (side-of d (w .side)) (w .at)))) (two (d .first) (d .second)))
 
 abbrev pub stopped : Device → ℕ → Device
 stopped d c = left d (d .under-way) c

@@ -170,9 +170,9 @@ pub reads : (t : List ℕ) (o : Option Command) → found t ≡ o → Reads t o
 unfolding Reads Said
 reads t (Some q) e = found-only t q e
 reads t None e = λ c s.
-  let b = read-back c (s .1) in
-  let f : found t ≡ Some (b .got) = sym (ap found (s .0)) ∙ b .was in
-  nothing Never (b .got) (sym e ∙ f)
+    let b = read-back c (s .1) in
+    let f : found t ≡ Some (b .got) = sym (ap found (s .0)) ∙ b .was in
+    nothing Never (b .got) (sym e ∙ f)
 
 pub spelled-once : Spelled-once
 unfolding Spelled-once

@@ -11,17 +11,17 @@ use Rattle.dates.specs.Limits.{a-day, a-stretch, a-time, a-zone}
 use Rattle.recurrence.specs.Event.{Event, Repeat, an-event, core-event, rising}
 
 pub data Command : Type 0 where
-  join : List ℕ → Command                       -- a new person, by name
+  join : List ℕ → Command  -- a new person, by name
   zone : ℕ → Zone → Command
-  put : ℕ → Event → Command                     -- a person's, gets the next number
+  put : ℕ → Event → Command  -- a person's, gets the next number
   change : ℕ → ℕ → Event → Command
   drop-event : ℕ → ℕ → Command
-  skip : ℕ → ℕ → ℕ → Command                    -- one of its days is left out
-  list : ℕ → ℕ → ℕ → Command                    -- what meets a stretch of time
-  busy-times : List ℕ → ℕ → ℕ → Command         -- when some of these people are busy
-  free : List ℕ → ℕ → ℕ → ℕ → Command           -- the first time at which all of them have so many minutes
-  next-one : ℕ → ℕ → Command                    -- the next that begins, within 400 days
-  shown : ℕ → ℕ → Command                       -- as it was put
+  skip : ℕ → ℕ → ℕ → Command  -- one of its days is left out
+  list : ℕ → ℕ → ℕ → Command  -- what meets a stretch of time
+  busy-times : List ℕ → ℕ → ℕ → Command  -- when some of these people are busy
+  free : List ℕ → ℕ → ℕ → ℕ → Command  -- the first time at which all of them have so many minutes
+  next-one : ℕ → ℕ → Command  -- the next that begins, within 400 days
+  shown : ℕ → ℕ → Command  -- as it was put
 
 abbrev pub bit : Bool → ℕ
 bit true = 1

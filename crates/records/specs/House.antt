@@ -18,10 +18,10 @@ pub record Entry : Type 0 where
 pub record Person : Type 0 where
   pub name : List ℕ
   pub next : ℕ
-  pub entries : List Entry           -- by rising number
+  pub entries : List Entry  -- by rising number
 
 pub record Plain : Type 0 where
-  pub zones : List Zone              -- sixteen
+  pub zones : List Zone  -- sixteen
   pub people : List Person
 
 pub record Turn : Type 0 where
@@ -111,31 +111,31 @@ next-spans w a t = those (begins-from t) (spans w (λ e. true) t (t + 576000) a)
 unfoldable pub turn : Plain → Command → Turn
 turn w (join n) =
     pick (any (λ p. same (p .name) n) (w .people)) (no 4 w)
-        (pick (leb 256 (length (w .people))) (no 7 w)
-            (yes (eight (length (w .people)) ∷ []) (record { zones = w .zones; people = (w .people) ++ record { name = n; next = 1; entries = [] } ∷ [] })))
+    (pick (leb 256 (length (w .people))) (no 7 w)
+    (yes (eight (length (w .people)) ∷ []) (record { zones = w .zones; people = (w .people) ++ record { name = n; next = 1; entries = [] } ∷ [] })))
 turn w (zone k z) = yes [] (record { zones = set-zone (w .zones) k z; people = w .people })
 turn w (put a e) =
     pick (is-there w a)
-        (let p : Person = person-at (w .people) a in
-         yes (eight (p .next) ∷ []) (with-person w a (record { name = p .name; next = suc (p .next); entries = (p .entries) ++ record { number = p .next; event = e } ∷ [] })))
-        (no 3 w)
+    (let p : Person = person-at (w .people) a in
+    yes (eight (p .next) ∷ []) (with-person w a (record { name = p .name; next = suc (p .next); entries = (p .entries) ++ record { number = p .next; event = e } ∷ [] })))
+    (no 3 w)
 turn w (change a n e) =
     pick (is-there w a)
-        (pick (none-of (entry-of (person-at (w .people) a) n)) (no 3 w) (yes [] (with-person w a (with-entries (person-at (w .people) a) (each (changed n e) (person-at (w .people) a .entries))))))
-        (no 3 w)
+    (pick (none-of (entry-of (person-at (w .people) a) n)) (no 3 w) (yes [] (with-person w a (with-entries (person-at (w .people) a) (each (changed n e) (person-at (w .people) a .entries))))))
+    (no 3 w)
 turn w (drop-event a n) =
     pick (is-there w a)
-        (pick (none-of (entry-of (person-at (w .people) a) n)) (no 3 w)
-            (yes [] (with-person w a (with-entries (person-at (w .people) a) (those (λ x. not (eqb (x .number) n)) (person-at (w .people) a .entries))))))
-        (no 3 w)
+    (pick (none-of (entry-of (person-at (w .people) a) n)) (no 3 w)
+    (yes [] (with-person w a (with-entries (person-at (w .people) a) (those (λ x. not (eqb (x .number) n)) (person-at (w .people) a .entries))))))
+    (no 3 w)
 turn w (skip a n d) =
     pick (is-there w a)
-        (pick (any (λ x. occurs (x .event) d) (entry-of (person-at (w .people) a) n))
-            (pick (any (λ x. leb 1000 (length (x .event .left-out))) (entry-of (person-at (w .people) a) n)) (no 7 w)
-                (yes [] (with-person w a (with-entries (person-at (w .people) a)
-                    (each (λ x. pick (eqb (x .number) n) (record { number = n; event = left-out-too d (x .event) }) x) (person-at (w .people) a .entries))))))
-            (no 3 w))
-        (no 3 w)
+    (pick (any (λ x. occurs (x .event) d) (entry-of (person-at (w .people) a) n))
+    (pick (any (λ x. leb 1000 (length (x .event .left-out))) (entry-of (person-at (w .people) a) n)) (no 7 w)
+    (yes [] (with-person w a (with-entries (person-at (w .people) a)
+    (each (λ x. pick (eqb (x .number) n) (record { number = n; event = left-out-too d (x .event) }) x) (person-at (w .people) a .entries))))))
+    (no 3 w))
+    (no 3 w)
 turn w (list a f t) = pick (is-there w a) (yes (each (span-row (person-at (w .people) a)) (spans w (λ e. true) f t a)) w) (no 3 w)
 turn w (busy-times ps f t) =
     pick (every (is-there w) ps) (yes (each (λ s. eight (s .from) ++ eight (s .to)) (busy-stretches w ps f t)) w) (no 3 w)

@@ -75,7 +75,14 @@ fn rises(bytes: &[u8], start: usize, count: usize, lo: u64, hi: u64) -> bool
 }
 
 // Rising numbers with their count before them, the count within bounds.
-pub fn row_at(bytes: &[u8], at: usize, few: u64, most: u64, lo: u64, hi: u64) -> Option<(Part, usize)>
+pub fn row_at(
+    bytes: &[u8],
+    at: usize,
+    few: u64,
+    most: u64,
+    lo: u64,
+    hi: u64,
+) -> Option<(Part, usize)>
     requires { ⌜ most ≤ 1000 ⌝ }
     requires { ⌜ hi < 18446744073709551615 ⌝ }
     ensures { λ r. ⌜ r ≡ row few most lo hi (now (bytes .entry)) at ⌝ }

@@ -66,7 +66,16 @@ fn zone_at(bytes: &[u8], at: usize) -> Option<(Zone, usize)>
     if begins.month == ends.month && extra > 0 {
         return None;
     }
-    Some((Zone { east, extra, begins, ends, minute }, at))
+    Some((
+        Zone {
+            east,
+            extra,
+            begins,
+            ends,
+            minute,
+        },
+        at,
+    ))
 }
 
 // The kind of a number below 7.
@@ -103,7 +112,16 @@ fn repeat_at(bytes: &[u8], at: usize) -> Option<(Repeat, usize)>
         return None;
     };
     let kind = kind_from(kind);
-    Some((Repeat { kind, step, weekdays, times, last }, at))
+    Some((
+        Repeat {
+            kind,
+            step,
+            weekdays,
+            times,
+            last,
+        },
+        at,
+    ))
 }
 
 // An event between its title and the days left out.
@@ -129,7 +147,17 @@ fn event_at(bytes: &[u8], at: usize) -> Option<(Event, usize)>
         return None;
     };
     let busy = busy == 1;
-    Some((Event { zone, first, minute, long, busy, repeat }, at))
+    Some((
+        Event {
+            zone,
+            first,
+            minute,
+            long,
+            busy,
+            repeat,
+        },
+        at,
+    ))
 }
 
 fn draft_at(bytes: &[u8], at: usize) -> Option<(Draft, usize)>
@@ -144,7 +172,14 @@ fn draft_at(bytes: &[u8], at: usize) -> Option<(Draft, usize)>
     let Some((left_out, at)) = row_at(bytes, at, 0, 1000, 11, 72999) else {
         return None;
     };
-    Some((Draft { title, event, left_out }, at))
+    Some((
+        Draft {
+            title,
+            event,
+            left_out,
+        },
+        at,
+    ))
 }
 
 // A command, if its text ends where it does.

@@ -14,8 +14,8 @@ pub record Repeat : Type 0 where
   pub kind : ℕ
   pub step : ℕ
   pub weekdays : List ℕ
-  pub times : ℕ                -- 0 for no end
-  pub last : ℕ                 -- the last day on which it may fall
+  pub times : ℕ  -- 0 for no end
+  pub last : ℕ  -- the last day on which it may fall
 
 pub record Event : Type 0 where
   pub title : List ℕ
@@ -40,7 +40,7 @@ falls r f d =
     (pick (eqb (r .kind) 3) (eqb (date-of d .day) (date-of f .day) && eqb ((months d - months f) % (r .step)) 0)
     (pick (eqb (r .kind) 4) ((eqb (weekday d) (weekday f) && eqb (which d) (which f)) && eqb ((months d - months f) % (r .step)) 0)
     (pick (eqb (r .kind) 5) ((eqb (weekday d) (weekday f) && is-last d) && eqb ((months d - months f) % (r .step)) 0)
-        ((eqb (date-of d .day) (date-of f .day) && eqb (date-of d .month) (date-of f .month)) && eqb ((date-of d .year - date-of f .year) % (r .step)) 0))))))
+    ((eqb (date-of d .day) (date-of f .day) && eqb (date-of d .month) (date-of f .month)) && eqb ((date-of d .year - date-of f .year) % (r .step)) 0))))))
 
 -- how often from the first day to so many days after it
 unfoldable pub so-often : Repeat → ℕ → ℕ → ℕ

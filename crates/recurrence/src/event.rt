@@ -4,7 +4,6 @@ ghost use mathlib.Core.Bool.{false};
 ghost use lib.ListN.{getD};
 ghost use Rattle.recurrence.specs.Week.{with-day, no-days, flags};
 
-
 // On which days an event falls, from its first to its last.
 #[derive(Clone, Copy)]
 pub enum Kind {
@@ -52,13 +51,34 @@ impl Weekdays {
         ensures { λ r. ⌜ r ≡ with-day day self ⌝ }
     {
         match day {
-            0 => Weekdays { monday: true, ..self },
-            1 => Weekdays { tuesday: true, ..self },
-            2 => Weekdays { wednesday: true, ..self },
-            3 => Weekdays { thursday: true, ..self },
-            4 => Weekdays { friday: true, ..self },
-            5 => Weekdays { saturday: true, ..self },
-            6 => Weekdays { sunday: true, ..self },
+            0 => Weekdays {
+                monday: true,
+                ..self
+            },
+            1 => Weekdays {
+                tuesday: true,
+                ..self
+            },
+            2 => Weekdays {
+                wednesday: true,
+                ..self
+            },
+            3 => Weekdays {
+                thursday: true,
+                ..self
+            },
+            4 => Weekdays {
+                friday: true,
+                ..self
+            },
+            5 => Weekdays {
+                saturday: true,
+                ..self
+            },
+            6 => Weekdays {
+                sunday: true,
+                ..self
+            },
             _ => self,
         }
     }

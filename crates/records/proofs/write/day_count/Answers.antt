@@ -19,10 +19,11 @@ pub loop-day-again : need.loop-day-again
 loop-day-again c =
     let on = flags (c .args .days) in
     let i = c .loop-day .day in
-    elim (c .if-has .came)
-    [ then-has w ↦ (let q = ap length (day-marked on i (omega arith) (sym (w .if-has .taken) ∙ c .has .ensures)) ∙ length-append (places 0 (take i on)) (i ∷ []) in
-        omega (arith, w .count-is, q, c .loop-day .inv))
-    | else-has w ↦ w .count-is ∙ c .loop-day .inv ∙ ap length (sym (day-passed on i (omega arith) (sym (w .if-has .left) ∙ c .has .ensures))) ]
+    elim (c .if-has .came) [
+      | then-has w ↦ (let q = ap length (day-marked on i (omega arith) (sym (w .if-has .taken) ∙ c .has .ensures)) ∙ length-append (places 0 (take i on)) (i ∷ []) in
+          omega (arith, w .count-is, q, c .loop-day .inv))
+      | else-has w ↦ w .count-is ∙ c .loop-day .inv ∙ ap length (sym (day-passed on i (omega arith) (sym (w .if-has .left) ∙ c .has .ensures)))
+    ]
 
 pub returns : need.returns
 unfolding days-of

@@ -35,17 +35,20 @@ loop-day-again c =
     let y = c .put-wide .last .out in
     let e = c .loop-day .inv .0 in
     let l = length-flat (places 0 (take i on)) in
-    elim (c .if-has .came)
-    [ then-has w ↦
-        (let d = day-marked on i (omega arith) (sym (w .if-has .taken) ∙ c .has .ensures) in
-         let q = ap length d ∙ length-append (places 0 (take i on)) (i ∷ []) in
-         ( omega (arith, w .end-is, q)
-         , w .out-is ∙ more-at k (c .loop-day .end) (flat eight (places 0 (take i on))) (eight i) y (c .loop-day .out) _ (omega arith) (c .loop-day .inv .1) (omega arith) (w .put-wide-then-has .ensures)
-         ∙ ap (λ u. placed k u y) (sym (flat-one-more (places 0 (take i on)) i) ∙ ap (flat eight) (sym d)) ))
-    | else-has w ↦
-        (let d = sym (day-passed on i (omega arith) (sym (w .if-has .left) ∙ c .has .ensures)) in
-         ( w .end-is ∙ e ∙ ap (λ ns. k + 8 * length ns) d
-         , w .out-is ∙ c .loop-day .inv .1 ∙ ap (λ ns. placed k (flat eight ns) y) d )) ]
+    elim (c .if-has .came) [
+      | then-has w ↦
+          (let d = day-marked on i (omega arith) (sym (w .if-has .taken) ∙ c .has .ensures) in
+          let q = ap length d ∙ length-append (places 0 (take i on)) (i ∷ []) in (
+            omega (arith, w .end-is, q),
+            w .out-is ∙ more-at k (c .loop-day .end) (flat eight (places 0 (take i on))) (eight i) y (c .loop-day .out) _ (omega arith) (c .loop-day .inv .1) (omega arith) (w .put-wide-then-has .ensures)
+                ∙ ap (λ u. placed k u y) (sym (flat-one-more (places 0 (take i on)) i) ∙ ap (flat eight) (sym d)),
+          ))
+      | else-has w ↦
+          (let d = sym (day-passed on i (omega arith) (sym (w .if-has .left) ∙ c .has .ensures)) in (
+            w .end-is ∙ e ∙ ap (λ ns. k + 8 * length ns) d,
+            w .out-is ∙ c .loop-day .inv .1 ∙ ap (λ ns. placed k (flat eight ns) y) d,
+          ))
+    ]
 
 pub returns : need.returns
 unfolding days-of
