@@ -23,3 +23,18 @@ from-eight-more n bs i h = at-drop-more (from-eight n) bs i 0 h
 pub from-eight-all : (n : ℕ) (bs : List ℕ) (i : ℕ) → length bs ≤ i → from-eight n (drop i bs) ≡ n
 unfolding from-eight
 from-eight-all n bs i h = at-drop-all (from-eight n) bs i h
+
+-- the same, eight bytes at once
+pub from-eight-at-once : (bs : List ℕ) → 8 ≤ length bs →
+    from-eight 0 (take 8 bs)
+    ≡ getD bs 0 0 * 72057594037927936 + getD bs 1 0 * 281474976710656 + getD bs 2 0 * 1099511627776 + getD bs 3 0 * 4294967296 + getD bs 4 0 * 16777216 + getD bs 5 0 * 65536 + getD bs 6 0 * 256 + getD bs 7 0
+unfolding from-eight
+from-eight-at-once [] h = absurd (omega arith)
+from-eight-at-once (a ∷ []) h = absurd (omega arith)
+from-eight-at-once (a ∷ b ∷ []) h = absurd (omega arith)
+from-eight-at-once (a ∷ b ∷ c ∷ []) h = absurd (omega arith)
+from-eight-at-once (a ∷ b ∷ c ∷ d ∷ []) h = absurd (omega arith)
+from-eight-at-once (a ∷ b ∷ c ∷ d ∷ e ∷ []) h = absurd (omega arith)
+from-eight-at-once (a ∷ b ∷ c ∷ d ∷ e ∷ f ∷ []) h = absurd (omega arith)
+from-eight-at-once (a ∷ b ∷ c ∷ d ∷ e ∷ f ∷ g ∷ []) h = absurd (omega arith)
+from-eight-at-once (a ∷ b ∷ c ∷ d ∷ e ∷ f ∷ g ∷ i ∷ bs) h = omega arith

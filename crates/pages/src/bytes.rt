@@ -10,8 +10,8 @@ pub fn eight_bytes(number: u64) -> [u8; 8]
     number.to_be_bytes()
 }
 
-// The number of the first eight bytes, or of as many as there are.
-pub fn number(bytes: &[u8]) -> u64
+// The number of a few bytes.
+fn short_number(bytes: &[u8]) -> u64
     ensures { λ r. ⌜ r ≡ from-eight 0 (take 8 (now (bytes .entry))) ⌝ }
 {
     let mut n = 0;
@@ -19,4 +19,14 @@ pub fn number(bytes: &[u8]) -> u64
         n = 256 * n + bytes[i] as u64;
     }
     n
+}
+
+// The number of the first eight bytes, or of as many as there are. Eight at once is what a processor loads at once.
+pub fn number(bytes: &[u8]) -> u64
+    ensures { λ r. ⌜ r ≡ from-eight 0 (take 8 (now (bytes .entry))) ⌝ }
+{
+    if bytes.len() < 8 {
+        return short_number(bytes);
+    }
+    u64::from_be_bytes([bytes[0], bytes[1], bytes[2], bytes[3], bytes[4], bytes[5], bytes[6], bytes[7]])
 }
