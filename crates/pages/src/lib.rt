@@ -1,1 +1,2 @@
 // Devices of pages, and numbers and bytes on them.
+pub mod hex;
