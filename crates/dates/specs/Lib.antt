@@ -3,3 +3,8 @@ pub mod Zone
 pub mod Limits
 pub mod Promise
 pub mod Entry
+pub mod Calendar
+pub mod Civil
+pub mod Worked
+pub mod Text
+pub mod Read

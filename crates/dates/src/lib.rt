@@ -1,5 +1,22 @@
 // Days, dates and zones.
+ghost use mathlib.Core.Path.{_≡_};
+ghost use Prim.Native.Nat.{_-_, _^_};
+ghost use Rattle.pages.specs.Lists.{pick};
+ghost use Rattle.dates.specs.Date.{day-of};
+ghost use Rattle.dates.specs.Calendar.{a-date};
+ghost use Rattle.dates.specs.Civil.{told};
+ghost use Rattle.dates.specs.Entry.{date-reply};
+ghost use Rattle.dates.specs.Promise.{Dates-right, Dates-back, Leap-days};
+ghost use Rattle.dates.specs.Worked.{Worked};
+
+pub mod calendar;
+pub mod civil;
+pub mod read;
+pub mod text;
+pub mod weekdays;
 pub mod zone;
+
+use civil::Date;
 
 #[derive(Clone, Copy)]
 pub enum Reply {
@@ -7,4 +24,56 @@ pub enum Reply {
     Tells(u64),
     // The number of the refusal.
     Refused(u64),
+}
+
+// The days that commands may name end here.
+const END: u64 = 73_000;
+
+pub fn date(day: u64) -> Reply
+    ensures { λ r. ⌜ r ≡ date-reply day ⌝ }
+{
+    if day >= END {
+        return Reply::Refused(1);
+    }
+    match Date::from_day(day) {
+        Some(date) => Reply::Tells(10_000 * date.year + 100 * date.month + date.day),
+        None => Reply::Refused(1),
+    }
+}
+
+// The same for C: the date as a number, 0 where it is refused.
+#[unsafe(no_mangle)]
+pub extern "C" fn boomdate_date(day: u64) -> u64
+    ensures { λ r. ⌜ r ≡ told (date-reply day) ⌝ }
+{
+    match date(day) {
+        Reply::Tells(number) => number,
+        Reply::Refused(_) => 0,
+    }
+}
+
+// The day of a date for C; the largest number where it is none.
+#[unsafe(no_mangle)]
+pub extern "C" fn boomdate_day(year: u64, month: u64, day: u64) -> u64
+    ensures { λ r. ⌜ r ≡ pick (a-date year month day) (day-of year month day) (2 ^ 64 - 1) ⌝ }
+{
+    match Date::new(year, month, day) {
+        Some(date) => date.to_day(),
+        None => u64::MAX,
+    }
+}
+
+// Days and dates are each the other's, and a leap year has a day more.
+pub fn dates_right() -> u8
+    ensures right { λ _. ⌜ Dates-right ⌝ }
+    ensures back { λ _. ⌜ Dates-back ⌝ }
+    ensures leap { λ _. ⌜ Leap-days ⌝ }
+{
+    0
+}
+
+pub fn worked_examples() -> u8
+    ensures { λ _. ⌜ Worked ⌝ }
+{
+    0
 }
