@@ -9,6 +9,15 @@ use Rattle.pages.specs.Bytes.{eight, in-bytes}
 pub more : (b : List ℕ) {x y z : List ℕ} → x ≡ y → z ≡ x ++ b → z ≡ y ++ b
 more b e f = f ∙ ap (λ l. l ++ b) e
 
+pub two-more : (w a b : List ℕ) → (w ++ a) ++ b ≡ w ++ (a ++ b)
+two-more w a b = append-assoc w a b
+
+pub three-more : (w a b c : List ℕ) → ((w ++ a) ++ b) ++ c ≡ w ++ (a ++ b ++ c)
+three-more w a b c = simp append-assoc
+
+pub four-more : (w a b c d : List ℕ) → (((w ++ a) ++ b) ++ c) ++ d ≡ w ++ (a ++ b ++ c ++ d)
+four-more w a b c d = simp append-assoc
+
 parts : (w t f m l r o zs bs : List ℕ)
     → (((((((w ++ t) ++ zs) ++ f) ++ m) ++ l) ++ bs) ++ r) ++ o ≡ w ++ (((((t ++ (zs ++ f)) ++ m) ++ l) ++ (bs ++ r)) ++ o)
 parts w t f m l r o zs bs = simp append-assoc

@@ -10,7 +10,7 @@ use Rattle.station.specs.declared.command.Kind.the-variants.{Once, Days, Weeks
 use Rattle.station.specs.declared.command.Repeat.{Repeat as CodeRepeat}
 use Rattle.station.specs.declared.command.Event.{Event as CodeEvent}
 use Rattle.station.specs.declared.command.Command.{Command as CodeCommand}
-use Rattle.station.specs.declared.command.Command.the-variants as code
+use Rattle.station.specs.declared.command.Command.the-variants.{Join, Zone as SetZone, Put, Change, DropEvent, Skip, List, Busy, Free, Next, Shown}
 
 abbrev pub kind-of : Kind → ℕ
 kind-of Once = 0
@@ -49,3 +49,16 @@ event-of e = record {
   busy = e .busy;
   repeat = repeat-of (e .repeat);
   left-out = vec-items (e .«left_out») }
+
+abbrev pub command-of : CodeCommand → Command
+command-of (Join n) = join (vec-items n)
+command-of (SetZone k z) = zone k (zone-of z)
+command-of (Put a e) = put a (event-of e)
+command-of (Change a n e) = change a n (event-of e)
+command-of (DropEvent a n) = drop-event a n
+command-of (Skip a n d) = skip a n d
+command-of (List a f t) = list a f t
+command-of (Busy ps f t) = busy-times (vec-items ps) f t
+command-of (Free ps k f t) = free (vec-items ps) k f t
+command-of (Next a t) = next-one a t
+command-of (Shown a n) = shown a n

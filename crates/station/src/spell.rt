@@ -1,11 +1,12 @@
 // Commands as the bytes that the house takes.
-ghost use mathlib.Core.List.{_++_};
+ghost use mathlib.Core.List.{_∷_, _++_};
 ghost use mathlib.Core.Path.{_≡_};
 ghost use Rattle.std.specs.Of.Vec.{vec-items};
 ghost use Rattle.std.specs.Vec.{made};
 ghost use Rattle.pages.specs.Bytes.{eight, with-length};
-ghost use Rattle.records.specs.Command.{bit, event-spelled, numbers, repeat-spelled, zone-spelled};
-ghost use Rattle.station.specs.Said.{event-of, kind-of, repeat-of, zone-of};
+ghost use Rattle.records.specs.Command.{bit, event-spelled, numbers, repeat-spelled, spelled, zone-spelled};
+ghost use Rattle.station.specs.Said.{command-of, event-of, kind-of, repeat-of, zone-of};
+use crate::command::Command;
 use crate::command::Event;
 use crate::command::Kind;
 use crate::command::Repeat;
@@ -95,5 +96,73 @@ pub fn put_event(out: &mut Vec<u8>, event: &Event) -> Result<(), AllocError>
     out.push(as_bit(event.busy))?;
     put_repeat(out, &event.repeat)?;
     put_numbers(out, event.left_out.as_slice())?;
+    Ok(())
+}
+
+// A command's number, and two numbers of its own.
+fn put_two(out: &mut Vec<u8>, code: u8, a: u64, b: u64) -> Result<(), AllocError>
+    ensures { λ r. ⌜ made r (λ _. vec-items (now (out .exit)) ≡ vec-items (now (out .entry)) ++ (code ∷ eight a ++ eight b)) ⌝ }
+{
+    out.push(code)?;
+    put_eight(out, a)?;
+    put_eight(out, b)?;
+    Ok(())
+}
+
+fn put_three(out: &mut Vec<u8>, code: u8, a: u64, b: u64, c: u64) -> Result<(), AllocError>
+    ensures { λ r. ⌜ made r (λ _. vec-items (now (out .exit)) ≡ vec-items (now (out .entry)) ++ (code ∷ eight a ++ eight b ++ eight c)) ⌝ }
+{
+    put_two(out, code, a, b)?;
+    put_eight(out, c)?;
+    Ok(())
+}
+
+fn put_people(out: &mut Vec<u8>, code: u8, people: &[u64]) -> Result<(), AllocError>
+    ensures { λ r. ⌜ made r (λ _. vec-items (now (out .exit)) ≡ vec-items (now (out .entry)) ++ (code ∷ numbers (now (people .entry)))) ⌝ }
+{
+    out.push(code)?;
+    put_numbers(out, people)?;
+    Ok(())
+}
+
+pub fn put_command(out: &mut Vec<u8>, command: &Command) -> Result<(), AllocError>
+    ensures { λ r. ⌜ made r (λ _. vec-items (now (out .exit)) ≡ vec-items (now (out .entry)) ++ spelled (command-of (now (command .entry)))) ⌝ }
+{
+    match command {
+        Command::Join { name } => {
+            out.push(1)?;
+            put_text(out, name.as_slice())?;
+        }
+        Command::Zone { number, zone } => {
+            out.push(2)?;
+            out.push(*number)?;
+            put_zone(out, zone)?;
+        }
+        Command::Put { person, event } => {
+            out.push(3)?;
+            put_eight(out, *person)?;
+            put_event(out, event)?;
+        }
+        Command::Change { person, number, event } => {
+            put_two(out, 4, *person, *number)?;
+            put_event(out, event)?;
+        }
+        Command::DropEvent { person, number } => put_two(out, 5, *person, *number)?,
+        Command::Skip { person, number, day } => put_three(out, 6, *person, *number, *day)?,
+        Command::List { person, from, to } => put_three(out, 7, *person, *from, *to)?,
+        Command::Busy { people, from, to } => {
+            put_people(out, 8, people.as_slice())?;
+            put_eight(out, *from)?;
+            put_eight(out, *to)?;
+        }
+        Command::Free { people, long, from, to } => {
+            put_people(out, 9, people.as_slice())?;
+            put_eight(out, *long)?;
+            put_eight(out, *from)?;
+            put_eight(out, *to)?;
+        }
+        Command::Next { person, from } => put_two(out, 10, *person, *from)?,
+        Command::Shown { person, number } => put_two(out, 11, *person, *number)?,
+    }
     Ok(())
 }
