@@ -9,7 +9,9 @@ use std::io::SeekFrom;
 use std::io::Write;
 
 pub const PAGE: usize = 512;
+
 const FEWEST: u64 = 256;
+
 const MOST: u64 = 1_048_576;
 
 #[derive(Drop)]
@@ -52,7 +54,11 @@ impl Sides {
         }
         page.resize(PAGE, 0)?;
         let at = SeekFrom::Start(k.saturating_mul(512));
-        let side = if second { &mut self.second } else { &mut self.first };
+        let side = if second {
+            &mut self.second
+        } else {
+            &mut self.first
+        };
         side.seek(at)?;
         side.read_exact(page.as_mut_slice())
     }
@@ -63,7 +69,11 @@ impl Sides {
             return Ok(false);
         }
         let at = SeekFrom::Start(k.saturating_mul(512));
-        let side = if second { &mut self.second } else { &mut self.first };
+        let side = if second {
+            &mut self.second
+        } else {
+            &mut self.first
+        };
         side.seek(at)?;
         side.write_all(page)?;
         side.sync_data()?;

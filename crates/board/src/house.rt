@@ -8,17 +8,23 @@ use std::alloc::Global;
 use std::io;
 
 const MEMORY: usize = 262_144;
+
 const ROW: usize = 131_072;
 // A machine that ends does so long before.
 const MOST_ACTS: u64 = 1 << 40;
 
 const ON: u64 = 0;
+
 const SAID: u64 = 1;
+
 const PAGE_READ: u64 = 2;
+
 const NEXT: u64 = 3;
 
 pub const DONE: u64 = 0;
+
 pub const NOT_KNOWN: u64 = 2;
+
 pub const FAULT: u64 = 999;
 
 // What follows an act.
@@ -58,12 +64,23 @@ impl House {
         self.run(SAID, command, zones, answer)
     }
 
-    fn run(&mut self, kind: u64, bytes: &[u8], zones: &[i64], answer: &mut Vec<u8>) -> io::Result<u64> {
+    fn run(
+        &mut self,
+        kind: u64,
+        bytes: &[u8],
+        zones: &[i64],
+        answer: &mut Vec<u8>,
+    ) -> io::Result<u64> {
         let mut kind = kind;
         self.told.clear();
         self.told.extend_from_slice(bytes)?;
         for _ in 0..MOST_ACTS {
-            let told = step(self.memory.as_mut_slice(), kind, self.told.as_slice(), self.out.as_mut_slice());
+            let told = step(
+                self.memory.as_mut_slice(),
+                kind,
+                self.told.as_slice(),
+                self.out.as_mut_slice(),
+            );
             match self.act(told, zones, answer)? {
                 Then::Tell(next) => kind = next,
                 Then::End(end) => return Ok(end),

@@ -17,7 +17,8 @@ use std::fs;
 use std::io;
 use std::io::Write;
 
-const USAGE: &str = "board FIRST SECOND PERSON FROM TO [ZONE...]: what is listed of a person of the house on two files, one line each: when it begins at Greenwich, its length and its title. FROM and TO are written as 2026-03-23 or 2026-03-23T07:00. Each ZONE is a number of minutes east of Greenwich, -720 to 840, and adds a column with the begin there.";
+const USAGE: &str =
+    "board FIRST SECOND PERSON FROM TO [ZONE...]: what is listed of a person of the house on two files, one line each: when it begins at Greenwich, its length and its title. FROM and TO are written as 2026-03-23 or 2026-03-23T07:00. Each ZONE is a number of minutes east of Greenwich, -720 to 840, and adds a column with the begin there.";
 
 // What is asked for on the command line.
 #[derive(Drop)]
@@ -29,7 +30,13 @@ struct Asked {
 }
 
 // Reads what is asked for, or says what is wrong.
-fn read_asked(rt: &LibcRuntime, person: &str, from: &str, to: &str, zones: Vec<i64>) -> io::Result<Option<Asked>> {
+fn read_asked(
+    rt: &LibcRuntime,
+    person: &str,
+    from: &str,
+    to: &str,
+    zones: Vec<i64>,
+) -> io::Result<Option<Asked>> {
     let Ok(person) = person.parse::<u64>() else {
         println!(rt, "{person} is no person's number")?;
         return Ok(None);
@@ -72,7 +79,10 @@ fn read_zones(heap: Global, words: env::Args) -> io::Result<Option<Vec<i64>>> {
 fn all_there(rt: &LibcRuntime, first: &str, second: &str) -> io::Result<bool> {
     for path in [first, second] {
         if !fs::exists(rt, path)? {
-            println!(rt, "{path} is missing: there is no house to list; the station makes one")?;
+            println!(
+                rt,
+                "{path} is missing: there is no house to list; the station makes one"
+            )?;
             return Ok(false);
         }
     }
@@ -92,7 +102,10 @@ fn print_board(rt: &LibcRuntime, sides: Sides, asked: &Asked) -> io::Result<()> 
     rt.stdout().write_all(answer.as_slice())?;
     match end {
         DONE => Ok(()),
-        1 => println!(rt, "refused: a person is a number up to 255, and TO is after FROM, by 400 days at most"),
+        1 => println!(
+            rt,
+            "refused: a person is a number up to 255, and TO is after FROM, by 400 days at most"
+        ),
         NOT_KNOWN => println!(rt, "list is not known yet"),
         3 => println!(rt, "refused: there is no such person"),
         _ => println!(rt, "refused {end}"),
@@ -119,7 +132,10 @@ fn run(rt: &LibcRuntime) -> io::Result<()> {
     }
     match Sides::open(rt, first.as_str(), second.as_str())? {
         Some(sides) => print_board(rt, sides, &asked),
-        None => println!(rt, "the files are not the two sides of a house: 256 to 1048576 pages of 512 bytes each, and equally many"),
+        None => println!(
+            rt,
+            "the files are not the two sides of a house: 256 to 1048576 pages of 512 bytes each, and equally many"
+        ),
     }
 }
 

@@ -54,7 +54,9 @@ fn title_of(row: &[u8]) -> Option<&[u8]> {
 // What is not printed stands as a dot.
 fn put_title(answer: &mut Vec<u8>, title: &[u8]) -> Option<()> {
     for b in title {
-        answer.push(if *b < 32 || *b == 127 { b'.' } else { *b }).ok()?;
+        answer
+            .push(if *b < 32 || *b == 127 { b'.' } else { *b })
+            .ok()?;
     }
     Some(())
 }

@@ -5,7 +5,6 @@ ghost use Rattle.std.specs.Of.Vec.{vec-items};
 ghost use Rattle.std.specs.Vec.{made};
 ghost use Rattle.pages.specs.Bytes.{eight};
 ghost use Rattle.records.specs.Command.{list, spelled};
-use dates::calendar::LAST_DAY;
 use dates::read::Misread;
 use dates::read::read_clock;
 use dates::read::read_date;

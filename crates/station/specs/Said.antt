@@ -29,7 +29,8 @@ zone-of z = record {
   from-week = z .begins .week;
   to-month = z .ends .month;
   to-week = z .ends .week;
-  at = z .minute }
+  at = z .minute;
+}
 
 abbrev pub repeat-of : CodeRepeat → Repeat
 repeat-of r = record {
@@ -37,7 +38,8 @@ repeat-of r = record {
   step = r .step;
   weekdays = vec-items (r .weekdays);
   times = r .times;
-  last = r .last }
+  last = r .last;
+}
 
 abbrev pub event-of : CodeEvent → Event
 event-of e = record {
@@ -48,7 +50,8 @@ event-of e = record {
   long = e .long;
   busy = e .busy;
   repeat = repeat-of (e .repeat);
-  left-out = vec-items (e .«left_out») }
+  left-out = vec-items (e .«left_out»);
+}
 
 abbrev pub command-of : CodeCommand → Command
 command-of (Join n) = join (vec-items n)

@@ -4,7 +4,6 @@ use dates::read::MisreadDisplay;
 use std::alloc::AllocError;
 use std::alloc::Refused;
 use std::fmt;
-use std::io;
 
 #[derive(Clone, Copy)]
 pub enum Bad {

@@ -39,15 +39,53 @@ pub struct Event {
 
 #[derive(Drop)]
 pub enum Command {
-    Join { name: Vec<u8> },
-    Zone { number: u8, zone: Zone },
-    Put { person: u64, event: Event },
-    Change { person: u64, number: u64, event: Event },
-    DropEvent { person: u64, number: u64 },
-    Skip { person: u64, number: u64, day: u64 },
-    List { person: u64, from: u64, to: u64 },
-    Busy { people: Vec<u64>, from: u64, to: u64 },
-    Free { people: Vec<u64>, long: u64, from: u64, to: u64 },
-    Next { person: u64, from: u64 },
-    Shown { person: u64, number: u64 },
+    Join {
+        name: Vec<u8>,
+    },
+    Zone {
+        number: u8,
+        zone: Zone,
+    },
+    Put {
+        person: u64,
+        event: Event,
+    },
+    Change {
+        person: u64,
+        number: u64,
+        event: Event,
+    },
+    DropEvent {
+        person: u64,
+        number: u64,
+    },
+    Skip {
+        person: u64,
+        number: u64,
+        day: u64,
+    },
+    List {
+        person: u64,
+        from: u64,
+        to: u64,
+    },
+    Busy {
+        people: Vec<u64>,
+        from: u64,
+        to: u64,
+    },
+    Free {
+        people: Vec<u64>,
+        long: u64,
+        from: u64,
+        to: u64,
+    },
+    Next {
+        person: u64,
+        from: u64,
+    },
+    Shown {
+        person: u64,
+        number: u64,
+    },
 }

@@ -13,7 +13,12 @@ use std::io;
 use std::io::Write;
 
 // Answers a line, and says whether there may be more.
-pub fn answer_line(heap: Global, house: &mut House, line: &[u8], answer: &mut Vec<u8>) -> io::Result<bool> {
+pub fn answer_line(
+    heap: Global,
+    house: &mut House,
+    line: &[u8],
+    answer: &mut Vec<u8>,
+) -> io::Result<bool> {
     let mut words = Words::new(line);
     match read_line(heap, &mut words) {
         Ok(Line::Nothing) => {}

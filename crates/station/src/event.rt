@@ -30,7 +30,12 @@ fn unquoted(word: &[u8]) -> Option<&[u8]> {
 }
 
 // A word, or a text in quotes.
-pub fn read_text(heap: Global, words: &mut Words<'_>, most: usize, wants: &'static str) -> Result<Vec<u8>, Bad> {
+pub fn read_text(
+    heap: Global,
+    words: &mut Words<'_>,
+    most: usize,
+    wants: &'static str,
+) -> Result<Vec<u8>, Bad> {
     let Some(text) = unquoted(some_word(words, wants)?) else {
         return Err(Bad::Wants("the closing quote is missing"));
     };
@@ -41,7 +46,12 @@ pub fn read_text(heap: Global, words: &mut Words<'_>, most: usize, wants: &'stat
 }
 
 pub fn read_event(heap: Global, words: &mut Words<'_>) -> Result<Event, Bad> {
-    let title = read_text(heap, words, 255, "a title stands here in quotes, of at most 255 bytes")?;
+    let title = read_text(
+        heap,
+        words,
+        255,
+        "a title stands here in quotes, of at most 255 bytes",
+    )?;
     expect(words, b"on", "on and a day come after the title")?;
     let first = day(words)?;
     expect(words, b"at", "at and a time of day come after the day")?;
@@ -86,7 +96,9 @@ fn read_more(word: &[u8], words: &mut Words<'_>, event: &mut Event) -> Result<()
         b"until" => event.repeat.last = day(words)?,
         b"times" => event.repeat.times = number(words, "times and a number")?,
         b"without" => read_days(words, &mut event.left_out)?,
-        _ => return Err(Bad::Wants("after the length come zone, free, every, until, times or without")),
+        _ => return Err(Bad::Wants(
+            "after the length come zone, free, every, until, times or without",
+        )),
     }
     Ok(())
 }

@@ -11,7 +11,9 @@ use std::io::SeekFrom;
 use std::io::Write;
 
 pub const PAGE: usize = 512;
+
 pub const FEWEST: u64 = 256;
+
 pub const MOST: u64 = 1_048_576;
 
 #[derive(Drop)]
@@ -59,7 +61,11 @@ pub fn open(rt: &LibcRuntime, first: &str, second: &str, pages: u64) -> io::Resu
                 return no_side(heap, first, bytes);
             };
             let new = make(rt, second, pages)?;
-            Ok(Opened::SecondMade(Sides { first: old, second: new, pages }))
+            Ok(Opened::SecondMade(Sides {
+                first: old,
+                second: new,
+                pages,
+            }))
         }
         (false, true) => {
             let old = open_one(rt, second)?;
@@ -68,7 +74,11 @@ pub fn open(rt: &LibcRuntime, first: &str, second: &str, pages: u64) -> io::Resu
                 return no_side(heap, second, bytes);
             };
             let new = make(rt, first, pages)?;
-            Ok(Opened::FirstMade(Sides { first: new, second: old, pages }))
+            Ok(Opened::FirstMade(Sides {
+                first: new,
+                second: old,
+                pages,
+            }))
         }
     }
 }
@@ -135,7 +145,11 @@ impl Sides {
         }
         page.resize(PAGE, 0)?;
         let at = SeekFrom::Start(k.saturating_mul(512));
-        let side = if second { &mut self.second } else { &mut self.first };
+        let side = if second {
+            &mut self.second
+        } else {
+            &mut self.first
+        };
         side.seek(at)?;
         side.read_exact(page.as_mut_slice())
     }
@@ -146,7 +160,11 @@ impl Sides {
             return Ok(false);
         }
         let at = SeekFrom::Start(k.saturating_mul(512));
-        let side = if second { &mut self.second } else { &mut self.first };
+        let side = if second {
+            &mut self.second
+        } else {
+            &mut self.first
+        };
         side.seek(at)?;
         side.write_all(page)?;
         side.sync_data()?;

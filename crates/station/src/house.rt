@@ -8,16 +8,21 @@ use std::alloc::Global;
 use std::io;
 
 const MEMORY: usize = 262_144;
+
 const ROW: usize = 131_072;
 // A machine that ends does so long before.
 const MOST_ACTS: u64 = 1 << 40;
 
 const ON: u64 = 0;
+
 const SAID: u64 = 1;
+
 const PAGE_READ: u64 = 2;
+
 const NEXT: u64 = 3;
 
 pub const DONE: u64 = 0;
+
 pub const FAULT: u64 = 999;
 
 // What follows an act.
@@ -66,7 +71,12 @@ impl House {
         self.told.clear();
         self.told.extend_from_slice(bytes)?;
         for _ in 0..MOST_ACTS {
-            let told = step(self.memory.as_mut_slice(), kind, self.told.as_slice(), self.out.as_mut_slice());
+            let told = step(
+                self.memory.as_mut_slice(),
+                kind,
+                self.told.as_slice(),
+                self.out.as_mut_slice(),
+            );
             match self.act(told, code, answer)? {
                 Then::Tell(next) => kind = next,
                 Then::End(end) => return Ok(end),

@@ -27,10 +27,16 @@ use std::io::BufRead;
 use std::io::BufReader;
 use std::io::Write;
 
-const USAGE: &str = "station FIRST SECOND [PAGES]: a house on two files of pages. Where neither exists they are made, with PAGES pages of 512 bytes (256 to 1048576; 4096 where nothing is said). Type help to see what can be said.";
+const USAGE: &str =
+    "station FIRST SECOND [PAGES]: a house on two files of pages. Where neither exists they are made, with PAGES pages of 512 bytes (256 to 1048576; 4096 where nothing is said). Type help to see what can be said.";
 
 // The files' sides, with a word on what was found; or why there are none.
-fn open_sides(rt: &LibcRuntime, first: &str, second: &str, pages: u64) -> io::Result<Option<Sides>> {
+fn open_sides(
+    rt: &LibcRuntime,
+    first: &str,
+    second: &str,
+    pages: u64,
+) -> io::Result<Option<Sides>> {
     match open(rt, first, second, pages)? {
         Opened::Both(sides) => Ok(Some(sides)),
         Opened::New(sides) => {
@@ -38,19 +44,31 @@ fn open_sides(rt: &LibcRuntime, first: &str, second: &str, pages: u64) -> io::Re
             Ok(Some(sides))
         }
         Opened::FirstMade(sides) => {
-            println!(rt, "{first} was missing: a blank one stands in its place, as for a device that was lost")?;
+            println!(
+                rt,
+                "{first} was missing: a blank one stands in its place, as for a device that was lost"
+            )?;
             Ok(Some(sides))
         }
         Opened::SecondMade(sides) => {
-            println!(rt, "{second} was missing: a blank one stands in its place, as for a device that was lost")?;
+            println!(
+                rt,
+                "{second} was missing: a blank one stands in its place, as for a device that was lost"
+            )?;
             Ok(Some(sides))
         }
         Opened::NoSide { path, bytes } => {
-            println!(rt, "{path} has {bytes} bytes: a side has 256 to 1048576 pages of 512 bytes; nothing is touched")?;
+            println!(
+                rt,
+                "{path} has {bytes} bytes: a side has 256 to 1048576 pages of 512 bytes; nothing is touched"
+            )?;
             Ok(None)
         }
         Opened::Unequal { first, second } => {
-            println!(rt, "the files have {first} and {second} bytes, and should be equally long; nothing is touched")?;
+            println!(
+                rt,
+                "the files have {first} and {second} bytes, and should be equally long; nothing is touched"
+            )?;
             Ok(None)
         }
         Opened::NoHouse(pages) => {

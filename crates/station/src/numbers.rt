@@ -100,14 +100,17 @@ fn minutes(day: u64, minute: u64) -> Result<u64, Bad> {
 
 // A time: a day alone is its midnight; the time of day stands behind a T or as a word of its own.
 pub fn time(words: &mut Words<'_>) -> Result<u64, Bad> {
-    let word = some_word(words, "a time stands here, as 2026-03-30 or 2026-03-30T07:00")?;
+    let word = some_word(
+        words,
+        "a time stands here, as 2026-03-30 or 2026-03-30T07:00",
+    )?;
     if word.len() > 10 && word[10] == b'T' {
         let (date, clock) = word.split_at(10);
         return minutes(parse_day(date)?, read_clock(&clock[1..])?);
     }
     let day = parse_day(word)?;
     match words.peek() {
-        Some(next) if next.contains(&b':') => minutes(day, clock(words)?),
+        Some(next) if next.len() < 10 && next.contains(&b':') => minutes(day, clock(words)?),
         _ => minutes(day, 0),
     }
 }

@@ -143,19 +143,32 @@ pub fn put_command(out: &mut Vec<u8>, command: &Command) -> Result<(), AllocErro
             put_eight(out, *person)?;
             put_event(out, event)?;
         }
-        Command::Change { person, number, event } => {
+        Command::Change {
+            person,
+            number,
+            event,
+        } => {
             put_two(out, 4, *person, *number)?;
             put_event(out, event)?;
         }
         Command::DropEvent { person, number } => put_two(out, 5, *person, *number)?,
-        Command::Skip { person, number, day } => put_three(out, 6, *person, *number, *day)?,
+        Command::Skip {
+            person,
+            number,
+            day,
+        } => put_three(out, 6, *person, *number, *day)?,
         Command::List { person, from, to } => put_three(out, 7, *person, *from, *to)?,
         Command::Busy { people, from, to } => {
             put_people(out, 8, people.as_slice())?;
             put_eight(out, *from)?;
             put_eight(out, *to)?;
         }
-        Command::Free { people, long, from, to } => {
+        Command::Free {
+            people,
+            long,
+            from,
+            to,
+        } => {
             put_people(out, 9, people.as_slice())?;
             put_eight(out, *long)?;
             put_eight(out, *from)?;

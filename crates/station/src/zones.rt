@@ -13,7 +13,11 @@ use dates::zone::Sunday;
 use dates::zone::Zone;
 
 pub fn read_zone_rules(words: &mut Words<'_>) -> Result<Zone, Bad> {
-    expect(words, b"east", "east and hours and minutes come after the zone's number, as east +1:00")?;
+    expect(
+        words,
+        b"east",
+        "east and hours and minutes come after the zone's number, as east +1:00",
+    )?;
     let east = read_east(some_word(words, EAST)?)?;
     if !words.skip(b"summer") {
         let first = Sunday { month: 1, week: 1 };
@@ -26,11 +30,23 @@ pub fn read_zone_rules(words: &mut Words<'_>) -> Result<Zone, Bad> {
         });
     }
     let extra = long(words)?;
-    expect(words, b"from", "from and a sunday come after the minutes of summer")?;
+    expect(
+        words,
+        b"from",
+        "from and a sunday come after the minutes of summer",
+    )?;
     let begins = read_sunday(words)?;
-    expect(words, b"to", "to and a sunday come after summer's first day")?;
+    expect(
+        words,
+        b"to",
+        "to and a sunday come after summer's first day",
+    )?;
     let ends = read_sunday(words)?;
-    expect(words, b"at", "at and a time of day come after summer's last day")?;
+    expect(
+        words,
+        b"at",
+        "at and a time of day come after summer's last day",
+    )?;
     Ok(Zone {
         east,
         extra,

@@ -15,5 +15,5 @@ returns c =
     let when = more _ (more _ (more _ zone (c .in-Continue-put-eight .ensures tt)) (c .in-Continue-put-eight-2 .ensures tt)) (c .in-Continue-put-eight-3 .ensures tt) in
     let busy = c .in-Continue-push-2 .ensures tt .items ∙ ap (λ b. vec-items (c .put-eight-3 .last .out) ++ b ∷ []) (c .as-bit .ensures) in
     let out = c .in-Continue-put-numbers .ensures tt ∙ ap (λ l. vec-items (c .put-repeat .last .out) ++ numbers l) (c .as-slice-2 .ensures .value) in
-    more _ (more _ (more _ when busy) (c .in-Continue-put-repeat .ensures tt)) out 
+    more _ (more _ (more _ when busy) (c .in-Continue-put-repeat .ensures tt)) out
     ∙ event-shape (vec-items (c .args .out .now)) (with-length (e .title)) (eight (e .first)) (eight (e .minute)) (eight (e .long)) (repeat-spelled (e .repeat)) (numbers (e .left-out)) (e .zone) (bit (e .busy))
