@@ -1,4 +1,9 @@
 // Two devices side by side in memory, and the write that is under way.
+ghost use mathlib.Core.List.{[], _∷_};
+ghost use mathlib.Core.Path.{_≡_};
+ghost use Rattle.std.specs.Of.Vec.{vec-items, vec-len};
+ghost use Rattle.pages.specs.Device.{landed, lost, page-at, side-of, stopped};
+ghost use Rattle.player.specs.Held.{device-of, side-number};
 use crate::sides::PAGE;
 use crate::sides::lose_side;
 use crate::sides::pages_of;
@@ -41,7 +46,9 @@ impl Devices {
         pages_of(self.first.as_slice())
     }
 
-    pub fn read(&self, second: bool, page: u64) -> &[u8] {
+    pub fn read(&self, second: bool, page: u64) -> &[u8]
+        ensures { λ r. ⌜ now r ≡ page-at (side-of (device-of (now (self .entry))) (side-number second)) page ⌝ }
+    {
         if second {
             read_page(self.second.as_slice(), page)
         } else {
@@ -60,7 +67,9 @@ impl Devices {
     }
 
     // The write under way lands.
-    pub fn land(&mut self) {
+    pub fn land(&mut self)
+        ensures { λ _. ⌜ (vec-len (now (self .entry) .page) ≡ 512 → device-of (now (self .exit)) ≡ landed (device-of (now (self .entry)))) ⌝ }
+    {
         if let Some(place) = self.under_way {
             let page = self.page.as_slice();
             if place.second {
@@ -94,7 +103,10 @@ impl Devices {
     }
 
     // One side is lost, and a blank one stands there.
-    pub fn lose(&mut self, second: bool) {
+    pub fn lose(&mut self, second: bool)
+        ensures { λ _. ⌜ device-of (now (self .exit)) ≡ lost (device-of (now (self .entry))) (side-number second) ⌝ }
+    {
+        self.under_way = None;
         if second {
             lose_side(self.second.as_mut_slice());
         } else {

@@ -1,4 +1,11 @@
 // The house beside its devices: what it is told, and the acts that it does one after the other.
+ghost use lib.Dec.{ltb};
+ghost use mathlib.Core.Bool.{false, _&&_};
+ghost use mathlib.Core.List.{[], _∷_};
+ghost use mathlib.Core.Path.{_≡_};
+ghost use Rattle.pages.specs.Lists.{pick};
+ghost use Rattle.pages.specs.Run.{proper-so, refusal-end};
+ghost use Rattle.player.specs.Items.{item-of};
 use crate::devices::Devices;
 use crate::script::Item;
 use crate::sides::PAGE;
@@ -73,13 +80,15 @@ impl House {
     }
 
     // Power comes where there is none, and a command is said where there is; a side is lost without power, and not again before it has come up.
-    fn allows(&self, item: &Item) -> bool {
+    fn allows(&self, item: &Item) -> bool
+        ensures { λ r. ⌜ r ≡ proper-so (now (self .entry) .up) (now (self .entry) .both) (item-of (now (item .entry)) ∷ []) ⌝ }
+    {
         match item {
             Item::Power => !self.up,
             Item::PowerStops { .. } => !self.up,
             Item::Whole(_) => self.up,
             Item::Stops { .. } => self.up,
-            Item::Loses(side) => !self.up && self.both && *side < 2,
+            Item::Loses(side) => may_lose(self.up, self.both, *side),
         }
     }
 
@@ -202,8 +211,19 @@ impl House {
     }
 }
 
+fn may_lose(up: bool, both: bool, side: u64) -> bool
+    ensures { λ r. ⌜ r ≡ pick up false (both && ltb side 2) ⌝ }
+{
+    if up || !both {
+        return false;
+    }
+    side < 2
+}
+
 // A refusal has a number below 1,000, and not 0: anything else is a fault.
-fn refusal(k: u64) -> u64 {
+fn refusal(k: u64) -> u64
+    ensures { λ r. ⌜ r ≡ refusal-end k ⌝ }
+{
     if k >= 1 && k < 1000 { k } else { FAULT }
 }
 
