@@ -25,4 +25,5 @@ abbrev pub device-of : Devices → Device
 device-of d = record {
   first = in-pages (vec-items (d .first));
   second = in-pages (vec-items (d .second));
-  under-way = waiting (d .«under_way») (vec-items (d .page)) }
+  under-way = waiting (d .«under_way») (vec-items (d .page));
+}

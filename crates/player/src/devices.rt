@@ -82,16 +82,21 @@ impl Devices {
     }
 
     // Power stops: of the write under way nothing comes onto its page, all (1), or its first half (2).
-    pub fn stop(&mut self, left: u64) {
+    pub fn stop(&mut self, left: u64)
+        ensures { λ _. ⌜ (vec-len (now (self .entry) .page) ≡ 512 → device-of (now (self .exit)) ≡ stopped (device-of (now (self .entry))) left) ⌝ }
+    {
         if left == 1 {
             self.land();
         } else if left == 2 {
             self.tear();
+        } else {
+            self.under_way = None;
         }
-        self.under_way = None;
     }
 
-    fn tear(&mut self) {
+    fn tear(&mut self)
+        ensures { λ _. ⌜ (vec-len (now (self .entry) .page) ≡ 512 → device-of (now (self .exit)) ≡ stopped (device-of (now (self .entry))) 2) ⌝ }
+    {
         if let Some(place) = self.under_way {
             let page = self.page.as_slice();
             if place.second {
@@ -99,6 +104,7 @@ impl Devices {
             } else {
                 tear_page(self.first.as_mut_slice(), place.page, page);
             }
+            self.under_way = None;
         }
     }
 
