@@ -8,3 +8,4 @@ pub mod Civil
 pub mod Worked
 pub mod Text
 pub mod Read
+pub mod Back

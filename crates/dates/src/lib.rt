@@ -29,6 +29,7 @@ pub enum Reply {
 // The days that commands may name end here.
 const END: u64 = 73_000;
 
+// The date of a day as one number.
 pub fn date(day: u64) -> Reply
     ensures { λ r. ⌜ r ≡ date-reply day ⌝ }
 {
@@ -72,8 +73,55 @@ pub fn dates_right() -> u8
     0
 }
 
+// Days, dates, weekdays and times that anyone can look up.
 pub fn worked_examples() -> u8
     ensures { λ _. ⌜ Worked ⌝ }
 {
     0
+}
+
+#[cfg(test)]
+mod tests {
+    use super::*;
+    use std::test::*;
+
+    fn is_leap(year: u64) -> bool {
+        year % 4 == 0 && year % 100 != 0 || year % 400 == 0
+    }
+
+    fn length(year: u64, month: u64) -> u64 {
+        match month {
+            4 | 6 | 9 | 11 => 30,
+            2 if is_leap(year) => 29,
+            2 => 28,
+            _ => 31,
+        }
+    }
+
+    // Every day, beside a calendar that knows only the lengths of the months and goes day by day.
+    #[test]
+    fn every_day() -> Result<(), Fail> {
+        let mut year = 2000u64;
+        let mut month = 1u64;
+        let mut day = 1u64;
+        let mut weekday = 5u64;
+        for number in 0..73_049u64 {
+            let Some(date) = Date::from_day(number) else {
+                return check(false);
+            };
+            check(date.year == year && date.month == month && date.day == day)?;
+            check(date.to_day() == number && date.weekday() == weekday)?;
+            weekday = weekday.wrapping_add(1) % 7;
+            day = day.wrapping_add(1);
+            if day > length(year, month) {
+                day = 1;
+                month = month % 12 + 1;
+            }
+            if month == 1 && day == 1 {
+                year = year.wrapping_add(1);
+            }
+        }
+        check(year == 2200 && month == 1 && day == 1)?;
+        check(Date::from_day(73_049).is_none())
+    }
 }

@@ -3,8 +3,10 @@ ghost use mathlib.Core.Path.{_≡_};
 ghost use Prim.Native.Nat.{_<_, _≤_};
 ghost use Rattle.std.specs.Options.{Cases as BySome};
 ghost use Rattle.std.specs.Results.{Cases};
+ghost use Rattle.std.specs.declared.option.Option.the-variants.{Some};
 ghost use Rattle.std.specs.declared.result.Result.the-variants.{Ok, Err};
-ghost use Rattle.dates.specs.Read.{digit-at, two-at, is-at, date-parts, date-read, clock-parts, clock-read, hours-at, length-parts, length-read};
+ghost use Rattle.dates.specs.Back.{Date-read-back, Clock-read-back, Length-read-back};
+ghost use Rattle.dates.specs.Read.{digit-at, two-at, is-at, date-parts, date-read, clock-parts, clock-read, hours-at, length-parts, length-read, said};
 use crate::calendar::FIRST_YEAR;
 use crate::calendar::LAST_YEAR;
 use crate::civil::Date;
@@ -23,20 +25,26 @@ pub enum Misread {
     Minute,
 }
 
+fn message(misread: Misread) -> &'static str
+    ensures { λ r. ⌜ now r ≡ said misread ⌝ }
+{
+    match misread {
+        Misread::NoDate => "no date: it is not written as 2026-03-30",
+        Misread::NoClock => "no time of day: it is not written as 07:00",
+        Misread::NoLength => "no length: it is not written as 2:00",
+        Misread::Year => "no date: the year is not 2000 to 2199",
+        Misread::Month => "no date: the month is not 1 to 12",
+        Misread::Day => "no date: the month has no such day",
+        Misread::Hour => "no time of day: the hour is not 0 to 23",
+        Misread::Minute => "the minutes are not 0 to 59",
+    }
+}
+
 pub impl fmt::Display for Misread as MisreadDisplay {
+    ghost shown = { λ e. Some (said e) };
+
     fn fmt<W: fmt::Write>(&self, f: &mut fmt::Formatter<W>) -> fmt::Result {
-        f.write_str(
-            match self {
-                Misread::NoDate => "no date: it is not written as 2026-03-30",
-                Misread::NoClock => "no time of day: it is not written as 07:00",
-                Misread::NoLength => "no length: it is not written as 2:00",
-                Misread::Year => "no date: the year is not 2000 to 2199",
-                Misread::Month => "no date: the month is not 1 to 12",
-                Misread::Day => "no date: the month has no such day",
-                Misread::Hour => "no time of day: the hour is not 0 to 23",
-                Misread::Minute => "the minutes are not 0 to 59",
-            },
-        )
+        f.write_str(message(*self))
     }
 }
 
@@ -76,6 +84,7 @@ fn date_parts(text: &[u8]) -> Option<(u64, u64, u64)>
     Some((100 * century + year, month, day))
 }
 
+// A date, as 2026-03-30.
 pub fn read_date(text: &[u8]) -> Result<Date, Misread>
     ensures { λ r. ⌜ Cases r (λ x. date-read (now (text .entry)) ≡ Ok (x .year, x .month, x .day)) (λ e. date-read (now (text .entry)) ≡ Err e) ⌝ }
 {
@@ -103,7 +112,7 @@ fn clock_parts(text: &[u8]) -> Option<(u64, u64)>
     Some((two_digits(text, 0)?, two_digits(text, 3)?))
 }
 
-// The minute of the day.
+// The minute of the day, from a text such as 07:00.
 pub fn read_clock(text: &[u8]) -> Result<u64, Misread>
     ensures { λ r. ⌜ Cases r (λ n. (clock-read (now (text .entry)) ≡ Ok n) × (n < 1440)) (λ e. clock-read (now (text .entry)) ≡ Err e) ⌝ }
 {
@@ -145,7 +154,7 @@ fn length_parts(text: &[u8]) -> Option<(u64, u64)>
     Some((hours(text, size - 3)?, two_digits(text, size - 2)?))
 }
 
-// The minutes of a length, which is below 1000 hours.
+// The minutes of a length such as 2:00, which is below 1000 hours.
 pub fn read_length(text: &[u8]) -> Result<u64, Misread>
     ensures { λ r. ⌜ Cases r (λ n. (length-read (now (text .entry)) ≡ Ok n) × (n < 60000)) (λ e. length-read (now (text .entry)) ≡ Err e) ⌝ }
 {
@@ -156,4 +165,13 @@ pub fn read_length(text: &[u8]) -> Result<u64, Misread>
         return Err(Misread::Minute);
     }
     Ok(60 * hours + minutes)
+}
+
+// What is written is read back.
+pub fn reads_back() -> u8
+    ensures date { λ _. ⌜ Date-read-back ⌝ }
+    ensures clock { λ _. ⌜ Clock-read-back ⌝ }
+    ensures length { λ _. ⌜ Length-read-back ⌝ }
+{
+    0
 }
