@@ -54,33 +54,38 @@ pub fn open(rt: &LibcRuntime, first: &str, second: &str, pages: u64) -> io::Resu
             };
             Ok(Opened::New(sides))
         }
-        (true, false) => {
-            let old = open_one(rt, first)?;
-            let bytes = old.metadata()?.len();
-            let Some(pages) = pages_in(bytes) else {
-                return no_side(heap, first, bytes);
-            };
-            let new = make(rt, second, pages)?;
-            Ok(Opened::SecondMade(Sides {
-                first: old,
-                second: new,
+        (true, false) => match beside(rt, first, second)? {
+            Ok((first, second, pages)) => Ok(Opened::SecondMade(Sides {
+                first,
+                second,
                 pages,
-            }))
-        }
-        (false, true) => {
-            let old = open_one(rt, second)?;
-            let bytes = old.metadata()?.len();
-            let Some(pages) = pages_in(bytes) else {
-                return no_side(heap, second, bytes);
-            };
-            let new = make(rt, first, pages)?;
-            Ok(Opened::FirstMade(Sides {
-                first: new,
-                second: old,
+            })),
+            Err(bytes) => no_side(heap, first, bytes),
+        },
+        (false, true) => match beside(rt, second, first)? {
+            Ok((second, first, pages)) => Ok(Opened::FirstMade(Sides {
+                first,
+                second,
                 pages,
-            }))
-        }
+            })),
+            Err(bytes) => no_side(heap, second, bytes),
+        },
     }
+}
+
+// The file that is there, a blank one of its length in the place of the other, and its pages; or its bytes, where they are no side.
+fn beside(
+    rt: &LibcRuntime,
+    there: &str,
+    missing: &str,
+) -> io::Result<Result<(File, File, u64), u64>> {
+    let old = open_one(rt, there)?;
+    let bytes = old.metadata()?.len();
+    let Some(pages) = pages_in(bytes) else {
+        return Ok(Err(bytes));
+    };
+    let new = make(rt, missing, pages)?;
+    Ok(Ok((old, new, pages)))
 }
 
 fn open_both(rt: &LibcRuntime, first: &str, second: &str) -> io::Result<Opened> {

@@ -57,24 +57,25 @@ fn open_sides(
             )?;
             Ok(Some(sides))
         }
-        Opened::NoSide { path, bytes } => {
-            println!(
-                rt,
-                "{path} has {bytes} bytes: a side has 256 to 1048576 pages of 512 bytes; nothing is touched"
-            )?;
+        refused => {
+            print_refusal(rt, refused)?;
             Ok(None)
         }
-        Opened::Unequal { first, second } => {
-            println!(
-                rt,
-                "the files have {first} and {second} bytes, and should be equally long; nothing is touched"
-            )?;
-            Ok(None)
-        }
-        Opened::NoHouse(pages) => {
-            println!(rt, "a house has 256 to 1048576 pages, and not {pages}")?;
-            Ok(None)
-        }
+    }
+}
+
+fn print_refusal(rt: &LibcRuntime, refused: Opened) -> io::Result<()> {
+    match refused {
+        Opened::NoSide { path, bytes } => println!(
+            rt,
+            "{path} has {bytes} bytes: a side has 256 to 1048576 pages of 512 bytes; nothing is touched"
+        ),
+        Opened::Unequal { first, second } => println!(
+            rt,
+            "the files have {first} and {second} bytes, and should be equally long; nothing is touched"
+        ),
+        Opened::NoHouse(pages) => println!(rt, "a house has 256 to 1048576 pages, and not {pages}"),
+        _ => Ok(()),
     }
 }
 

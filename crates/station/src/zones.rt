@@ -29,6 +29,10 @@ pub fn read_zone_rules(words: &mut Words<'_>) -> Result<Zone, Bad> {
             minute: 0,
         });
     }
+    read_summer(words, east)
+}
+
+fn read_summer(words: &mut Words<'_>, east: u64) -> Result<Zone, Bad> {
     let extra = long(words)?;
     expect(
         words,
