@@ -10,32 +10,32 @@ use Rattle.std.proofs.shelf.Tests.{cases-lt}
 use Rattle.pages.specs.Lists.{pick}
 use Rattle.dates.specs.Date.{date-of, day-of, months, weekday, nth-weekday}
 use Rattle.dates.specs.Calendar.{In, month-days}
-use Rattle.dates.specs.Promise.{Dates-right, Dates-back, Leap-days, leap}
+use Rattle.dates.specs.Promise.{Dates-right, Dates-back, Leap-days}
 
 pub dates-right : Dates-right
 unfolding Dates-right date-of day-of
 dates-right d = grind (arith, tells)
 
 pub leap-days : Leap-days
-unfolding Leap-days day-of leap
+unfolding Leap-days day-of
 leap-days y h = grind (arith, tells)
 
 -- the first of the next month comes as many days later as the month has
 pub month-on : (y m : ℕ) → 2000 ≤ y → 1 ≤ m → m ≤ 12 → day-of (y + m / 12) (m % 12 + 1) 1 ≡ day-of y m 1 + month-days y m
-unfolding day-of month-days leap
+unfolding day-of month-days
 month-on y m a b c = grind (arith, tells)
 
 -- each day has a date of the calendar
 pub in-calendar : (d : ℕ) → In (date-of d .year) (date-of d .month) (date-of d .day)
-unfolding date-of month-days leap
+unfolding date-of month-days
 in-calendar d = record { year = grind (arith, tells); low = grind (arith, tells); high = grind (arith, tells); one = grind (arith, tells); inside = grind (arith, tells) }
 
 once-year : (y m d z n e : ℕ) → In y m d → In z n e → day-of y m d ≡ day-of z n e → y ≡ z
-unfolding day-of month-days leap
+unfolding day-of month-days
 once-year y m d z n e a b h = grind (arith, tells)
 
 once-month : (y m d n e : ℕ) → In y m d → In y n e → day-of y m d ≡ day-of y n e → m ≡ n
-unfolding day-of month-days leap
+unfolding day-of month-days
 once-month y m d n e a b h = grind (arith, tells)
 
 once-day : (y m d e : ℕ) → In y m d → In y m e → day-of y m d ≡ day-of y m e → d ≡ e
@@ -74,7 +74,7 @@ month-small y m = grind (arith, tells)
 
 -- the dates up to 2199 are those of the days up to 73,048
 pub to-last : (y m d : ℕ) → In y m d → y ≤ 2199 → day-of y m d ≤ 73048
-unfolding day-of month-days leap
+unfolding day-of month-days
 to-last y m d a h = grind (arith, tells)
 
 pub year-to-last : (n : ℕ) → n ≤ 73048 → date-of n .year ≤ 2199
@@ -87,11 +87,11 @@ unfolding day-of
 next-day y m d a = grind (arith, tells)
 
 pub next-month : (y m d : ℕ) → In y m d → month-days y m ≤ d → m < 12 → day-of y (m + 1) 1 ≡ day-of y m d + 1
-unfolding day-of month-days leap
+unfolding day-of month-days
 next-month y m d a h l = grind (arith, tells)
 
 pub next-year : (y m d : ℕ) → In y m d → month-days y m ≤ d → 12 ≤ m → day-of (y + 1) 1 1 ≡ day-of y m d + 1
-unfolding day-of month-days leap
+unfolding day-of month-days
 next-year y m d a h l = grind (arith, tells)
 
 -- the first of a month is a date

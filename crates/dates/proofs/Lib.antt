@@ -1,3 +1,4 @@
 pub mod Dates
 pub mod Own
+pub mod Months
 mod ReadBack

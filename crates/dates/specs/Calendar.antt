@@ -5,6 +5,7 @@ use lib.Dec.{eqb, leb}
 use Rattle.pages.specs.Lists.{pick}
 use Rattle.dates.specs.Promise.{leap}
 
+-- 31 and 30 days in turn, and 31 in August too; February has what is left
 unfoldable pub month-days : ℕ → ℕ → ℕ
 month-days y m = pick (eqb m 2) (pick (leap y) 29 28) (30 + (m + m / 8) % 2)
 

@@ -24,7 +24,7 @@ Dates-back =
     (date-of (day-of y m d) .year ≡ y) × (date-of (day-of y m d) .month ≡ m) × (date-of (day-of y m d) .day ≡ d)
 
 -- 3. A leap year is one that 4 divides and 100 doesn't, or that 400 divides.
-unfoldable pub leap : ℕ → Bool
+abbrev pub leap : ℕ → Bool
 leap y = eqb (y % 4) 0 && or (not (eqb (y % 100) 0)) (eqb (y % 400) 0)
 
 unfoldable pub Leap-days : Type 0

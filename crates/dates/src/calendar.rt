@@ -9,6 +9,7 @@ ghost use Rattle.dates.specs.Civil.{number-of, Is, Of};
 ghost use Rattle.dates.specs.Promise.{leap};
 use crate::civil::Date;
 
+// The years that dates are of.
 pub const FIRST_YEAR: u64 = 2000;
 
 pub const LAST_YEAR: u64 = 2199;
@@ -63,6 +64,7 @@ fn parts(day: u64) -> (u64, u64, u64)
     }
 }
 
+// The date of a year, month and day that are one.
 pub(crate) fn dated(year: u64, month: u64, day: u64) -> Date
     requires { ⌜ In year month day ⌝ ∗ ⌜ year ≤ 2199 ⌝ }
     ensures of { λ r. ⌜ Of r (day-of year month day) ⌝ }
@@ -72,7 +74,7 @@ pub(crate) fn dated(year: u64, month: u64, day: u64) -> Date
 }
 
 impl Date {
-    // None for what is no date of the calendar, or of another time than 2000 to 2199.
+    // None where they are no date of the calendar, or not of 2000 to 2199.
     pub fn new(year: u64, month: u64, day: u64) -> Option<Date>
         ensures { λ r. ⌜ Cases r (a-date year month day ≡ false) (λ x. (a-date year month day ≡ true) × Is x year month day × Of x (day-of year month day)) ⌝ }
     {

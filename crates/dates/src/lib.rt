@@ -29,6 +29,7 @@ pub enum Reply {
 // The days that commands may name end here.
 const END: u64 = 73_000;
 
+// The date of a day as one number.
 pub fn date(day: u64) -> Reply
     ensures { λ r. ⌜ r ≡ date-reply day ⌝ }
 {
@@ -72,6 +73,7 @@ pub fn dates_right() -> u8
     0
 }
 
+// Days, dates, weekdays and times that anyone can look up.
 pub fn worked_examples() -> u8
     ensures { λ _. ⌜ Worked ⌝ }
 {

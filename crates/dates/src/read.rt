@@ -84,6 +84,7 @@ fn date_parts(text: &[u8]) -> Option<(u64, u64, u64)>
     Some((100 * century + year, month, day))
 }
 
+// A date, as 2026-03-30.
 pub fn read_date(text: &[u8]) -> Result<Date, Misread>
     ensures { λ r. ⌜ Cases r (λ x. date-read (now (text .entry)) ≡ Ok (x .year, x .month, x .day)) (λ e. date-read (now (text .entry)) ≡ Err e) ⌝ }
 {
@@ -111,7 +112,7 @@ fn clock_parts(text: &[u8]) -> Option<(u64, u64)>
     Some((two_digits(text, 0)?, two_digits(text, 3)?))
 }
 
-// The minute of the day.
+// The minute of the day, from a text such as 07:00.
 pub fn read_clock(text: &[u8]) -> Result<u64, Misread>
     ensures { λ r. ⌜ Cases r (λ n. (clock-read (now (text .entry)) ≡ Ok n) × (n < 1440)) (λ e. clock-read (now (text .entry)) ≡ Err e) ⌝ }
 {
@@ -153,7 +154,7 @@ fn length_parts(text: &[u8]) -> Option<(u64, u64)>
     Some((hours(text, size - 3)?, two_digits(text, size - 2)?))
 }
 
-// The minutes of a length, which is below 1000 hours.
+// The minutes of a length such as 2:00, which is below 1000 hours.
 pub fn read_length(text: &[u8]) -> Result<u64, Misread>
     ensures { λ r. ⌜ Cases r (λ n. (length-read (now (text .entry)) ≡ Ok n) × (n < 60000)) (λ e. length-read (now (text .entry)) ≡ Err e) ⌝ }
 {

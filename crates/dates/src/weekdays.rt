@@ -1,6 +1,6 @@
 // Weekdays, Monday first: Monday is 0.
 ghost use mathlib.Core.Path.{_≡_};
-ghost use mathlib.Core.Bool.{false};
+ghost use mathlib.Core.Bool.{true, false};
 ghost use Prim.Native.Nat.{_+_, _-_, _*_, _≤_};
 ghost use lib.Dec.{eqb, leb};
 ghost use Rattle.std.specs.Options.{Cases};
@@ -41,7 +41,7 @@ impl Date {
 
     // The first to the fourth, or (5) the last, of a weekday in its month.
     pub fn nth_weekday(self, weekday: u64, nth: u64) -> Option<Date>
-        ensures { λ r. ⌜ Cases r (an-nth weekday nth ≡ false) (λ x. Of x (nth-weekday (self .year) (self .month) weekday nth) × (x .year ≡ self .year) × (x .month ≡ self .month)) ⌝ }
+        ensures { λ r. ⌜ Cases r (an-nth weekday nth ≡ false) (λ x. (an-nth weekday nth ≡ true) × Of x (nth-weekday (self .year) (self .month) weekday nth) × (x .year ≡ self .year) × (x .month ≡ self .month)) ⌝ }
     {
         if weekday > 6 || nth < 1 || nth > 5 {
             return None;

@@ -1,11 +1,12 @@
-use Rattle.std.proofs.shelf.Tests.{lt-ltb, le-ltb}
+use native.Mathlib.Omega.{arith}
+use Rattle.std.proofs.shelf.Ways.{tells}
 use Rattle.dates.specs.Entry.{date-reply}
 use Rattle.dates.proofs.date.Needs as need
 
 pub returns-then-day-ge-END : need.returns-then-day-ge-END
 unfolding date-reply
-returns-then-day-ge-END c = rw (le-ltb _ _ (c .if-day-ge-END .taken))
+returns-then-day-ge-END c = grind (arith, tells)
 
 pub returns-in-Some : need.returns-in-Some
 unfolding date-reply
-returns-in-Some c = let o = c .in-Some .ensures tt in rw (lt-ltb _ _ (c .if-day-ge-END .left)) (cc)
+returns-in-Some c = let o = c .in-Some .ensures tt in grind (arith, tells)

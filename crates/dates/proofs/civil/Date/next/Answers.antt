@@ -2,7 +2,6 @@ use native.Mathlib.Omega.{arith}
 use Rattle.std.proofs.shelf.Ways.{tells}
 use Rattle.dates.specs.Date.{day-of}
 use Rattle.dates.specs.Calendar.{month-days}
-use Rattle.dates.specs.Promise.{leap}
 use Rattle.dates.proofs.Own.{dated}
 use Rattle.dates.proofs.Dates.{first-in, next-day, next-month, next-year}
 use Rattle.dates.proofs.civil.Date.next.Needs as need
@@ -29,5 +28,5 @@ returns-then-self-lt-LAST-YEAR c =
     rw (next-year (x .year) (x .month) (x .day) (dated x) (omega arith) (omega arith)) at (c .dated-then-self-lt-LAST-YEAR .ensures .of)
 
 pub returns-else-self-lt-LAST-YEAR : need.returns-else-self-lt-LAST-YEAR
-unfolding day-of month-days leap
+unfolding day-of month-days
 returns-else-self-lt-LAST-YEAR c = grind (arith, tells)

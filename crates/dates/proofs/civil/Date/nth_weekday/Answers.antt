@@ -2,6 +2,7 @@ use mathlib.Core.Path.{_≡_, refl}
 use Prim.Native.Nat.{ℕ, _+_, _-_, _*_, _%_, _≤_}
 use lib.Dec.{eqb, leb}
 use native.Mathlib.Omega.{arith}
+use Rattle.std.proofs.shelf.Ways.{tells}
 use Rattle.pages.specs.Lists.{pick}
 use Rattle.dates.specs.Calendar.{In, month-days}
 use Rattle.dates.specs.Civil.{number-of, Of}
@@ -30,4 +31,4 @@ returns c =
     let x = c .args .self in
     let n = found x (c .first-of-month .result) (c .args .weekday) (c .args .nth) _ _ _ (c .first-of-month .ensures) (omega arith) (omega arith) (c .weekday .ensures) (c .month-length .ensures) (c .nth-day-day .ensures) in
     let e = c .dated .ensures in
-    (rw (n .1) at (e .of), e .is .year, e .is .month)
+    (grind (arith, tells), rw (n .1) at (e .of), e .is .year, e .is .month)
