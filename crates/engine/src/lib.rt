@@ -11,6 +11,9 @@ mod machine;
 #[cfg(test)]
 mod tests;
 
+pub use dates::Reply;
+pub use dates::date;
+
 use act::heard;
 use act::told;
 use machine::turn;
