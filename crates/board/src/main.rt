@@ -1,14 +1,16 @@
 // Prints what is listed of a person, one line each.
-mod files;
-mod house;
 mod row;
 mod say;
 
 use dates::read::MisreadDisplay;
-use files::Sides;
-use house::DONE;
-use house::House;
-use house::NOT_KNOWN;
+use host::files::Opened;
+use host::files::Sides;
+use host::files::open_both;
+use host::house::DONE;
+use host::house::House;
+use host::house::NOT_KNOWN;
+use row::Board;
+use row::BoardShows;
 use say::list_command;
 use say::read_time;
 use std::alloc::Global;
@@ -89,17 +91,17 @@ fn all_there(rt: &LibcRuntime, first: &str, second: &str) -> io::Result<bool> {
     Ok(true)
 }
 
-fn print_board(rt: &LibcRuntime, sides: Sides, asked: &Asked) -> io::Result<()> {
+fn print_board(rt: &LibcRuntime, sides: Sides, asked: Asked) -> io::Result<()> {
     let heap = rt.alloc();
     let mut house = House::new(heap, sides)?;
-    let mut answer = Vec::new(heap);
-    let end = house.power(&mut answer)?;
+    let command = list_command(heap, asked.person, asked.from, asked.to)?;
+    let mut board = Board::new(heap, asked.zones);
+    let end = house.power(&mut board)?;
     if end != DONE {
         return println!(rt, "the house does not come up: refused {end}");
     }
-    let command = list_command(heap, asked.person, asked.from, asked.to)?;
-    let end = house.say(command.as_slice(), asked.zones.as_slice(), &mut answer)?;
-    rt.stdout().write_all(answer.as_slice())?;
+    let end = house.say(command.as_slice(), &mut board)?;
+    rt.stdout().write_all(board.text.as_slice())?;
     match end {
         DONE => Ok(()),
         1 => println!(
@@ -130,9 +132,9 @@ fn run(rt: &LibcRuntime) -> io::Result<()> {
     if !all_there(rt, first.as_str(), second.as_str())? {
         return Ok(());
     }
-    match Sides::open(rt, first.as_str(), second.as_str())? {
-        Some(sides) => print_board(rt, sides, &asked),
-        None => println!(
+    match open_both(rt, first.as_str(), second.as_str())? {
+        Opened::Both(sides) => print_board(rt, sides, asked),
+        _ => println!(
             rt,
             "the files are not the two sides of a house: 256 to 1048576 pages of 512 bytes each, and equally many"
         ),

@@ -3,10 +3,34 @@ use dates::text::Length;
 use dates::text::LengthDisplay;
 use dates::text::Time;
 use dates::text::TimeDisplay;
+use host::house::Shows;
+use std::alloc::Global;
 use std::io;
 use std::io::Write;
 
-pub fn put_row(answer: &mut Vec<u8>, zones: &[i64], row: &[u8]) -> io::Result<()> {
+// The lines of the board, and the zones whose times they show.
+#[derive(Drop)]
+pub struct Board {
+    pub text: Vec<u8>,
+    zones: Vec<i64>,
+}
+
+impl Board {
+    pub fn new(heap: Global, zones: Vec<i64>) -> Board {
+        Board {
+            text: Vec::new(heap),
+            zones,
+        }
+    }
+}
+
+pub impl Shows for Board as BoardShows {
+    fn show(&mut self, row: &[u8]) -> io::Result<()> {
+        put_row(&mut self.text, self.zones.as_slice(), row)
+    }
+}
+
+fn put_row(answer: &mut Vec<u8>, zones: &[i64], row: &[u8]) -> io::Result<()> {
     let start = answer.len();
     if put_words(answer, zones, row).is_none() {
         answer.truncate(start);

@@ -31,7 +31,7 @@ pub enum Act {
 }
 
 // The event of a kind, 0 to 3, and some bytes.
-pub fn heard(kind: u64, bytes: &[u8]) -> Event
+pub(crate) fn heard(kind: u64, bytes: &[u8]) -> Event
     ensures { λ r. ⌜ event-in r (now (bytes .entry)) ≡ event-of kind (now (bytes .entry)) ⌝ }
 {
     match kind {
@@ -43,7 +43,7 @@ pub fn heard(kind: u64, bytes: &[u8]) -> Event
 }
 
 // An act as it is told.
-pub fn told(act: Act) -> Told
+pub(crate) fn told(act: Act) -> Told
     requires { ⌜ place-of act < 18446744073709551616 ⌝ }
     ensures { λ r. ⌜ r ≡ told-of act ⌝ }
 {

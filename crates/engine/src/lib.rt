@@ -11,11 +11,10 @@ mod machine;
 #[cfg(test)]
 mod tests;
 
-pub use dates::Reply;
-pub use dates::date;
-
 use act::heard;
 use act::told;
+pub use dates::Reply;
+pub use dates::date;
 use machine::turn;
 
 // What the machine does, as it is told to the world outside.

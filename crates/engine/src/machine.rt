@@ -58,7 +58,7 @@ fn command(memory: &[u64], bytes: &[u8]) -> Act
     Act::Refused(2)
 }
 
-pub fn turn(memory: &mut [u64], event: Event, bytes: &[u8]) -> Act
+pub(crate) fn turn(memory: &mut [u64], event: Event, bytes: &[u8]) -> Act
     requires { ⌜ 0 < length (now memory) ⌝ }
     ensures turn { λ r. ⌜ ((o : List ℕ) → Outcome (step-of (now (memory .entry)) (event-in event (now (bytes .entry)))) r (now (memory .exit)) o o) ⌝ }
     ensures small { λ r. ⌜ place-of r ≡ 0 ⌝ }

@@ -16,7 +16,7 @@ fn number(bytes: &[u8], at: usize) -> u64
 }
 
 // A number of eight bytes, within bounds.
-pub fn wide_at(bytes: &[u8], at: usize, lo: u64, hi: u64) -> Option<(u64, usize)>
+pub(crate) fn wide_at(bytes: &[u8], at: usize, lo: u64, hi: u64) -> Option<(u64, usize)>
     ensures { λ r. ⌜ r ≡ wide lo hi (now (bytes .entry)) at ⌝ }
 {
     if at > bytes.len() || bytes.len() - at < 8 {
@@ -30,7 +30,7 @@ pub fn wide_at(bytes: &[u8], at: usize, lo: u64, hi: u64) -> Option<(u64, usize)
 }
 
 // A byte, within bounds.
-pub fn narrow_at(bytes: &[u8], at: usize, lo: u8, hi: u8) -> Option<(u8, usize)>
+pub(crate) fn narrow_at(bytes: &[u8], at: usize, lo: u8, hi: u8) -> Option<(u8, usize)>
     ensures { λ r. ⌜ r ≡ narrow lo hi (now (bytes .entry)) at ⌝ }
 {
     if at >= bytes.len() {
@@ -44,7 +44,7 @@ pub fn narrow_at(bytes: &[u8], at: usize, lo: u8, hi: u8) -> Option<(u8, usize)>
 }
 
 // Bytes with their count before them, the count within bounds.
-pub fn text_at(bytes: &[u8], at: usize, few: u64, most: u64) -> Option<(Part, usize)>
+pub(crate) fn text_at(bytes: &[u8], at: usize, few: u64, most: u64) -> Option<(Part, usize)>
     ensures { λ r. ⌜ r ≡ text few most (now (bytes .entry)) at ⌝ }
 {
     let Some((n, start)) = wide_at(bytes, at, few, most) else {
@@ -75,7 +75,7 @@ fn rises(bytes: &[u8], start: usize, count: usize, lo: u64, hi: u64) -> bool
 }
 
 // Rising numbers with their count before them, the count within bounds.
-pub fn row_at(
+pub(crate) fn row_at(
     bytes: &[u8],
     at: usize,
     few: u64,
@@ -113,7 +113,7 @@ fn marked(bytes: &[u8], start: usize, count: usize) -> Weekdays
 }
 
 // Weekdays by rising number, with their count before them.
-pub fn weekdays_at(bytes: &[u8], at: usize) -> Option<(Weekdays, usize)>
+pub(crate) fn weekdays_at(bytes: &[u8], at: usize) -> Option<(Weekdays, usize)>
     ensures { λ r. ⌜ r ≡ weekdays (now (bytes .entry)) at ⌝ }
 {
     let Some((part, next)) = row_at(bytes, at, 0, 7, 0, 6) else {

@@ -3,11 +3,13 @@ use crate::bad::Bad;
 use crate::bad::BadDisplay;
 use crate::help::explain;
 use crate::help::names;
-use crate::house::DONE;
-use crate::house::House;
 use crate::line::Line;
 use crate::line::read_line;
+use crate::rows::Answer;
+use crate::rows::AnswerShows;
 use crate::words::Words;
+use host::house::DONE;
+use host::house::House;
 use std::alloc::Global;
 use std::io;
 use std::io::Write;
@@ -17,18 +19,19 @@ pub fn answer_line(
     heap: Global,
     house: &mut House,
     line: &[u8],
-    answer: &mut Vec<u8>,
+    answer: &mut Answer,
 ) -> io::Result<bool> {
     let mut words = Words::new(line);
     match read_line(heap, &mut words) {
         Ok(Line::Nothing) => {}
         Ok(Line::Quit) => return Ok(false),
-        Ok(Line::Help(topic)) => put_help(answer, topic)?,
+        Ok(Line::Help(topic)) => put_help(&mut answer.text, topic)?,
         Ok(Line::Say(command)) => {
+            answer.code = command.first().copied().unwrap_or(0);
             let end = house.say(command.as_slice(), answer)?;
-            put_end(answer, end)?;
+            put_end(&mut answer.text, end)?;
         }
-        Err(why) => put_bad(answer, line, why)?,
+        Err(why) => put_bad(&mut answer.text, line, why)?,
     }
     Ok(true)
 }

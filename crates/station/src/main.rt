@@ -3,9 +3,7 @@ mod bad;
 mod command;
 mod desk;
 mod event;
-mod files;
 mod help;
-mod house;
 mod line;
 mod numbers;
 mod parts;
@@ -17,10 +15,12 @@ mod zones;
 
 use desk::answer_line;
 use desk::put_end;
-use files::Opened;
-use files::Sides;
-use files::open;
-use house::House;
+use host::files::Opened;
+use host::files::Sides;
+use host::files::open;
+use host::house::House;
+use rows::Answer;
+use rows::AnswerShows;
 use std::env;
 use std::io;
 use std::io::BufRead;
@@ -86,20 +86,20 @@ fn serve(rt: &LibcRuntime, sides: Sides) -> io::Result<()> {
     let mut output = rt.stdout();
     let pages = sides.pages();
     let mut house = House::new(heap, sides)?;
-    let mut answer = Vec::new(heap);
+    let mut answer = Answer::new(heap);
     let end = house.power(&mut answer)?;
-    write!(answer, "power, {pages} pages: ")?;
-    put_end(&mut answer, end)?;
-    output.write_all(answer.as_slice())?;
+    write!(answer.text, "power, {pages} pages: ")?;
+    put_end(&mut answer.text, end)?;
+    output.write_all(answer.text.as_slice())?;
     let mut line = Vec::new(heap);
     for _ in 0..u64::MAX {
         line.clear();
         if input.read_until(b'\n', &mut line)? == 0 {
             break;
         }
-        answer.clear();
+        answer.text.clear();
         let more = answer_line(heap, &mut house, line.as_slice(), &mut answer)?;
-        output.write_all(answer.as_slice())?;
+        output.write_all(answer.text.as_slice())?;
         if !more {
             break;
         }

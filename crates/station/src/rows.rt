@@ -6,12 +6,36 @@ use dates::text::Length;
 use dates::text::LengthDisplay;
 use dates::text::Time;
 use dates::text::TimeDisplay;
+use host::house::Shows;
 use pages::hex;
+use std::alloc::Global;
 use std::io;
 use std::io::Write;
 
+// What is answered to a line, and the number of the command whose rows are shown.
+#[derive(Drop)]
+pub struct Answer {
+    pub text: Vec<u8>,
+    pub code: u8,
+}
+
+impl Answer {
+    pub fn new(heap: Global) -> Answer {
+        Answer {
+            text: Vec::new(heap),
+            code: 0,
+        }
+    }
+}
+
+pub impl Shows for Answer as AnswerShows {
+    fn show(&mut self, row: &[u8]) -> io::Result<()> {
+        put_row(&mut self.text, self.code, row)
+    }
+}
+
 // Writes a row of the answer to a command, by the command's number; in hexadecimal digits where it is no such row.
-pub fn put_row(answer: &mut Vec<u8>, code: u8, row: &[u8]) -> io::Result<()> {
+fn put_row(answer: &mut Vec<u8>, code: u8, row: &[u8]) -> io::Result<()> {
     let start = answer.len();
     if put_words(answer, code, row).is_none() {
         answer.truncate(start);

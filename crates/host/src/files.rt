@@ -1,4 +1,11 @@
 // The two files of a house: pages of 512 bytes, one after the other.
+ghost use mathlib.Core.Bool.{cond};
+ghost use mathlib.Core.Path.{_≡_};
+ghost use Prim.Native.Nat.{_*_, _≤_};
+ghost use lib.Dec.{ltb};
+ghost use Rattle.std.specs.Of.Vec.{vec-len};
+ghost use Rattle.std.specs.Options.{Cases as BySome};
+ghost use Rattle.std.specs.Vec.{made};
 use std::alloc::Global;
 use std::fs;
 use std::fs::File;
@@ -88,7 +95,8 @@ fn beside(
     Ok(Ok((old, new, pages)))
 }
 
-fn open_both(rt: &LibcRuntime, first: &str, second: &str) -> io::Result<Opened> {
+// Both files, which have to be there.
+pub fn open_both(rt: &LibcRuntime, first: &str, second: &str) -> io::Result<Opened> {
     let one = open_one(rt, first)?;
     let two = open_one(rt, second)?;
     let bytes = one.metadata()?.len();
@@ -118,7 +126,9 @@ fn no_side(heap: Global, path: &str, bytes: u64) -> io::Result<Opened> {
 }
 
 // How many pages a side of so many bytes has.
-fn pages_in(bytes: u64) -> Option<u64> {
+fn pages_in(bytes: u64) -> Option<u64>
+    ensures { λ r. ⌜ BySome r (Unit {0}) (λ n. (256 ≤ n) × (n ≤ 1048576) × (512 * n ≡ bytes)) ⌝ }
+{
     let pages = bytes / 512;
     if bytes % 512 != 0 || pages < FEWEST || pages > MOST {
         return None;
@@ -138,41 +148,51 @@ fn make(rt: &LibcRuntime, path: &str, pages: u64) -> io::Result<File> {
 }
 
 impl Sides {
-    pub fn pages(&self) -> u64 {
+    pub fn pages(&self) -> u64
+        ensures { λ r. ⌜ r ≡ now (self .entry) .pages ⌝ }
+    {
         self.pages
     }
 
     // Reads a page into `page`; one beyond the end is empty.
-    pub fn read(&mut self, second: bool, k: u64, page: &mut Vec<u8>) -> io::Result<()> {
+    pub fn read(&mut self, second: bool, k: u64, page: &mut Vec<u8>) -> io::Result<()>
+        ensures { λ r. ⌜ made r (λ _. vec-len (now (page .exit)) ≡ cond (ltb k (now (self .entry) .pages)) 512 0) ⌝ }
+    {
         page.clear();
         if k >= self.pages {
             return Ok(());
         }
         page.resize(PAGE, 0)?;
-        let at = SeekFrom::Start(k.saturating_mul(512));
-        let side = if second {
-            &mut self.second
+        if second {
+            read_at(&mut self.second, k, page.as_mut_slice())
         } else {
-            &mut self.first
-        };
-        side.seek(at)?;
-        side.read_exact(page.as_mut_slice())
+            read_at(&mut self.first, k, page.as_mut_slice())
+        }
     }
 
     // Writes a page, and sees that it is on the disk; or says that there is no such page.
-    pub fn write(&mut self, second: bool, k: u64, page: &[u8]) -> io::Result<bool> {
+    pub fn write(&mut self, second: bool, k: u64, page: &[u8]) -> io::Result<bool>
+        ensures { λ r. ⌜ made r (λ there. there ≡ ltb k (now (self .entry) .pages)) ⌝ }
+    {
         if k >= self.pages {
             return Ok(false);
         }
-        let at = SeekFrom::Start(k.saturating_mul(512));
-        let side = if second {
-            &mut self.second
+        if second {
+            write_at(&mut self.second, k, page)?;
         } else {
-            &mut self.first
-        };
-        side.seek(at)?;
-        side.write_all(page)?;
-        side.sync_data()?;
+            write_at(&mut self.first, k, page)?;
+        }
         Ok(true)
     }
+}
+
+fn read_at(file: &mut File, k: u64, page: &mut [u8]) -> io::Result<()> {
+    file.seek(SeekFrom::Start(k.saturating_mul(512)))?;
+    file.read_exact(page)
+}
+
+fn write_at(file: &mut File, k: u64, page: &[u8]) -> io::Result<()> {
+    file.seek(SeekFrom::Start(k.saturating_mul(512)))?;
+    file.write_all(page)?;
+    file.sync_data()
 }

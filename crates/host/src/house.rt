@@ -1,7 +1,8 @@
 // The house beside its files: what it is told, and the acts that it does one after the other.
+ghost use Prim.Native.Nat.{_<_};
+ghost use Rattle.std.specs.Vec.{made};
 use crate::files::PAGE;
 use crate::files::Sides;
-use crate::rows::put_row;
 use engine::Told;
 use engine::step;
 use std::alloc::Global;
@@ -21,15 +22,30 @@ const PAGE_READ: u64 = 2;
 
 const NEXT: u64 = 3;
 
+// How a command ends: as done, refused since it is not known yet, or by a fault.
 pub const DONE: u64 = 0;
+
+pub const NOT_KNOWN: u64 = 2;
 
 pub const FAULT: u64 = 999;
 
-// What follows an act.
+// Where the rows go that a command shows.
+pub trait Shows {
+    fn show(&mut self, row: &[u8]) -> io::Result<()>;
+}
+
+// What follows an act: what the machine is told next, or how the command ended.
 #[derive(Clone, Copy)]
 enum Then {
     Tell(u64),
     End(u64),
+}
+
+// A refusal has a number below 1,000; anything else is a fault.
+fn ended(end: u64) -> u64
+    ensures { λ r. ⌜ r < 1000 ⌝ }
+{
+    if end < 1000 { end } else { FAULT }
 }
 
 #[derive(Drop)]
@@ -52,21 +68,23 @@ impl House {
     }
 
     // Power comes: 0 for done, or the refusal's number.
-    pub fn power(&mut self, answer: &mut Vec<u8>) -> io::Result<u64> {
+    pub fn power<S: Shows>(&mut self, rows: &mut S) -> io::Result<u64>
+        ensures { λ r. ⌜ made r (λ end. end < 1000) ⌝ }
+    {
         let pages = self.sides.pages().to_be_bytes();
-        self.run(ON, &pages, 0, answer)
+        self.run(ON, &pages, rows)
     }
 
-    // Says a command; its rows are written in words, and it answers 0 for done, or the refusal's number.
-    pub fn say(&mut self, command: &[u8], answer: &mut Vec<u8>) -> io::Result<u64> {
-        let code = match command {
-            [code, ..] => *code,
-            [] => 0,
-        };
-        self.run(SAID, command, code, answer)
+    // Says a command and hands on its rows; 0 for done, or the refusal's number.
+    pub fn say<S: Shows>(&mut self, command: &[u8], rows: &mut S) -> io::Result<u64>
+        ensures { λ r. ⌜ made r (λ end. end < 1000) ⌝ }
+    {
+        self.run(SAID, command, rows)
     }
 
-    fn run(&mut self, kind: u64, bytes: &[u8], code: u8, answer: &mut Vec<u8>) -> io::Result<u64> {
+    fn run<S: Shows>(&mut self, kind: u64, bytes: &[u8], rows: &mut S) -> io::Result<u64>
+        ensures { λ r. ⌜ made r (λ end. end < 1000) ⌝ }
+    {
         let mut kind = kind;
         self.told.clear();
         self.told.extend_from_slice(bytes)?;
@@ -77,15 +95,15 @@ impl House {
                 self.told.as_slice(),
                 self.out.as_mut_slice(),
             );
-            match self.act(told, code, answer)? {
+            match self.act(told, rows)? {
                 Then::Tell(next) => kind = next,
-                Then::End(end) => return Ok(end),
+                Then::End(end) => return Ok(ended(end)),
             }
         }
         Ok(FAULT)
     }
 
-    fn act(&mut self, told: Told, code: u8, answer: &mut Vec<u8>) -> io::Result<Then> {
+    fn act<S: Shows>(&mut self, told: Told, rows: &mut S) -> io::Result<Then> {
         self.told.clear();
         match told {
             Told::Read(x) => {
@@ -93,9 +111,9 @@ impl House {
                 Ok(Then::Tell(PAGE_READ))
             }
             Told::Write(x) => self.write(x % 2 == 1, x / 2),
-            Told::Shows(n) => self.show(n, code, answer),
+            Told::Shows(n) => self.show(n, rows),
             Told::Done => Ok(Then::End(DONE)),
-            Told::No(k) => Ok(Then::End(if k >= 1 && k < 1000 { k } else { FAULT })),
+            Told::No(k) => Ok(Then::End(if k == DONE { FAULT } else { k })),
         }
     }
 
@@ -110,12 +128,12 @@ impl House {
         }
     }
 
-    fn show(&mut self, n: u64, code: u8, answer: &mut Vec<u8>) -> io::Result<Then> {
+    fn show<S: Shows>(&mut self, n: u64, rows: &mut S) -> io::Result<Then> {
         let n = n as usize;
         if n > self.out.len() {
             return Ok(Then::End(FAULT));
         }
-        put_row(answer, code, &self.out.as_slice()[0..n])?;
+        rows.show(&self.out.as_slice()[0..n])?;
         Ok(Then::Tell(NEXT))
     }
 }
