@@ -6,6 +6,8 @@ ghost use lib.Dec.{ltb};
 ghost use Rattle.std.specs.Of.Vec.{vec-len};
 ghost use Rattle.std.specs.Options.{Cases as BySome};
 ghost use Rattle.std.specs.Vec.{made};
+ghost use Rattle.std.specs.declared.result.Result.the-variants.{Ok, Err};
+ghost use Rattle.host.specs.Sides.{Housed, Sound};
 use std::alloc::Global;
 use std::fs;
 use std::fs::File;
@@ -46,7 +48,9 @@ pub enum Opened {
     NoHouse(u64),
 }
 
-pub fn open(rt: &LibcRuntime, first: &str, second: &str, pages: u64) -> io::Result<Opened> {
+pub fn open(rt: &LibcRuntime, first: &str, second: &str, pages: u64) -> io::Result<Opened>
+    ensures { λ r. ⌜ made r Sound ⌝ }
+{
     let heap = rt.alloc();
     match (fs::exists(rt, first)?, fs::exists(rt, second)?) {
         (true, true) => open_both(rt, first, second),
@@ -85,7 +89,9 @@ fn beside(
     rt: &LibcRuntime,
     there: &str,
     missing: &str,
-) -> io::Result<Result<(File, File, u64), u64>> {
+) -> io::Result<Result<(File, File, u64), u64>>
+    ensures { λ r. ⌜ made r (λ x. elim x [ Ok t ↦ Housed (t .2) | Err b ↦ Unit {0} ]) ⌝ }
+{
     let old = open_one(rt, there)?;
     let bytes = old.metadata()?.len();
     let Some(pages) = pages_in(bytes) else {
@@ -96,7 +102,9 @@ fn beside(
 }
 
 // Both files, which have to be there.
-pub fn open_both(rt: &LibcRuntime, first: &str, second: &str) -> io::Result<Opened> {
+pub fn open_both(rt: &LibcRuntime, first: &str, second: &str) -> io::Result<Opened>
+    ensures { λ r. ⌜ made r Sound ⌝ }
+{
     let one = open_one(rt, first)?;
     let two = open_one(rt, second)?;
     let bytes = one.metadata()?.len();
@@ -120,7 +128,9 @@ pub fn open_both(rt: &LibcRuntime, first: &str, second: &str) -> io::Result<Open
     }))
 }
 
-fn no_side(heap: Global, path: &str, bytes: u64) -> io::Result<Opened> {
+fn no_side(heap: Global, path: &str, bytes: u64) -> io::Result<Opened>
+    ensures { λ r. ⌜ made r Sound ⌝ }
+{
     let path = String::from_str(heap, path)?;
     Ok(Opened::NoSide { path, bytes })
 }

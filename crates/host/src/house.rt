@@ -59,11 +59,14 @@ pub struct House {
 
 impl House {
     pub fn new(heap: Global, sides: Sides) -> io::Result<House> {
+        let memory = vec![in heap; 0; MEMORY]?;
+        let out = vec![in heap; 0; ROW]?;
+        let told = Vec::new(heap);
         Ok(House {
             sides,
-            memory: vec![in heap; 0; MEMORY]?,
-            told: Vec::new(heap),
-            out: vec![in heap; 0; ROW]?,
+            memory,
+            told,
+            out,
         })
     }
 
