@@ -1,1 +1,4 @@
 pub mod Weeks
+pub mod Steps
+pub mod Counting
+pub mod Nexts

@@ -1,2 +1,4 @@
-// Events by value, and how they repeat.
+// Events by value, on which days they fall, and on which of those they occur.
 pub mod event;
+pub mod rule;
+mod weekly;
