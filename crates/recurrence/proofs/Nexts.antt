@@ -15,8 +15,9 @@ use Rattle.std.proofs.shelf.Tests.{cases-bool, cases-lt, cases-eq, le-leb, lt-l
 use Rattle.pages.specs.Lists.{pick}
 use Rattle.dates.specs.Date.{weekday, week}
 use Rattle.recurrence.specs.Event.{Repeat, has, falls, so-often}
-use Rattle.recurrence.specs.ByRule.{fits, next-daily, on-from, in-week, or-else, weeks-past, next-weekly, up-to, next-due, next-day}
-use Rattle.recurrence.specs.First.{First, None-from, Next, Rules-right}
+use Rattle.recurrence.specs.ByRule.{fits, known, next-daily, on-from, in-week, or-else, weeks-past, next-weekly, up-to, next-due, next-day, often}
+use Rattle.recurrence.specs.First.{First, None-from, Next, Rules-right, answer, Tells}
+use Rattle.recurrence.specs.declared.rule.Answer.{Answer}
 use Rattle.recurrence.proofs.Steps.{sum-past, sum-whole, due, falls-past, falls-due, Fits-rule, fits-rule}
 use Rattle.recurrence.proofs.Counting.{often-is}
 
@@ -201,3 +202,16 @@ next-is r f d h =
 pub rules-right : Rules-right
 unfolding Rules-right
 rules-right r f h = let p = fits-rule r f h in ((λ d. next-is r f d h), λ n. often-is r f (p .kind) (p .pos) n)
+
+-- the answer of the code
+told : (k : Bool) (p : ℕ → Bool) (a : ℕ) (o : Option ℕ) → (k ≡ true → Next p a o) → Tells k p a (answer k o)
+told false p a o h = refl
+told true p a None h = (refl, h refl)
+told true p a (Some x) h = (refl, h refl)
+
+pub next-told : (r : Repeat) (f d : ℕ) (a : Answer) → a ≡ answer (known r f d) (next-day r f d) → Tells (known r f d) (falls r f) d a
+next-told r f d a e =
+    rw e (told (known r f d) (falls r f) d (next-day r f d) (λ h. next-is r f d (grind (arith, tells))))
+
+pub count-told : (r : Repeat) (f d n : ℕ) → known r f d ≡ true → often r f n ≡ so-often r f n
+count-told r f d n h = let p = fits-rule r f (grind (arith, tells)) in often-is r f (p .kind) (p .pos) n
