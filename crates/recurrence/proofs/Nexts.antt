@@ -215,3 +215,12 @@ next-told r f d a e =
 
 pub count-told : (r : Repeat) (f d n : ℕ) → known r f d ≡ true → often r f n ≡ so-often r f n
 count-told r f d n h = let p = fits-rule r f (grind (arith, tells)) in often-is r f (p .kind) (p .pos) n
+
+pub known-fits : (r : Repeat) (f d : ℕ) → known r f d ≡ true → fits r f ≡ true
+known-fits r f d h = grind (arith, tells)
+
+pub next-some : (r : Repeat) (f d x : ℕ) → known r f d ≡ true → Some x ≡ next-day r f d → First (falls r f) d x
+next-some r f d x h e = rw (sym e) at (next-is r f d (known-fits r f d h))
+
+pub next-none : (r : Repeat) (f d : ℕ) → known r f d ≡ true → None ≡ next-day r f d → None-from (falls r f) d
+next-none r f d h e = rw (sym e) at (next-is r f d (known-fits r f d h))

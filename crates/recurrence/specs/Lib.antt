@@ -5,3 +5,4 @@ pub mod Week
 pub mod Value
 pub mod ByRule
 pub mod First
+pub mod Occurrence

@@ -1,4 +1,5 @@
 // Events by value, on which days they fall, and on which of those they occur.
 pub mod event;
+pub mod occurrence;
 pub mod rule;
 mod weekly;

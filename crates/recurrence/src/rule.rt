@@ -49,7 +49,7 @@ impl Repeat {
         if self.knows(first, day) { Some(self.count_known(first, day)) } else { None }
     }
 
-    fn knows(self, first: u64, day: u64) -> bool
+    pub(crate) fn knows(self, first: u64, day: u64) -> bool
         ensures { λ r. ⌜ r ≡ known (repeat-of self) first day ⌝ }
     {
         let by_rule = match self.kind {
@@ -59,7 +59,7 @@ impl Repeat {
         by_rule && 1 <= self.step && self.step <= LIMIT && first <= LIMIT && self.last < LIMIT && day <= LIMIT
     }
 
-    fn next_known(self, first: u64, from: u64) -> Option<u64>
+    pub(crate) fn next_known(self, first: u64, from: u64) -> Option<u64>
         requires { ⌜ known (repeat-of self) first from ≡ true ⌝ }
         ensures { λ r. ⌜ r ≡ next-day (repeat-of self) first from ⌝ }
     {
@@ -81,7 +81,7 @@ impl Repeat {
         }
     }
 
-    fn count_known(self, first: u64, day: u64) -> u64
+    pub(crate) fn count_known(self, first: u64, day: u64) -> u64
         requires { ⌜ known (repeat-of self) first day ≡ true ⌝ }
         ensures { λ r. ⌜ r ≡ often (repeat-of self) first (day - first) ⌝ }
     {
