@@ -12,13 +12,14 @@ use Rattle.std.specs.Options.{Cases}
 use Rattle.std.specs.declared.option.Option.{Option}
 use Rattle.std.specs.declared.option.Option.the-variants.{None, Some}
 use Rattle.std.proofs.shelf.Ways.{tells}
-use Rattle.std.proofs.shelf.Tests.{cases-bool, cases-lt, cases-eq, lt-ltb, le-ltb, false≢true}
+use Rattle.std.proofs.shelf.Tests.{and-parts, cases-bool, cases-lt, cases-eq, lt-ltb, le-ltb, false≢true}
 use Rattle.pages.specs.Lists.{or, pick, those}
-use Rattle.recurrence.specs.Event.{Repeat, Event, falls, has, occurs, so-often}
+use Rattle.dates.specs.Limits.{a-day}
+use Rattle.recurrence.specs.Event.{Repeat, Event, a-repeat, falls, has, occurs, so-often}
 use Rattle.recurrence.specs.Span.{days-from}
 use Rattle.recurrence.specs.ByRule.{fits, known, next-day}
 use Rattle.recurrence.specs.First.{First, None-from, Next}
-use Rattle.recurrence.specs.Occurrence.{counts, unless-left-out, passing, next-occurrence, then-on, one-by-one, Occurrences-right}
+use Rattle.recurrence.specs.Occurrence.{counts, unless-left-out, passing, next-occurrence, then-on, one-by-one, Occurrences-right, All-known}
 use Rattle.recurrence.proofs.Nexts.{known-fits, next-is, next-none, next-some}
 use Rattle.recurrence.proofs.LeftOut.{left-from, left-fewer, left-all}
 
@@ -182,10 +183,22 @@ one-by-one-is p next h (suc n) a b l =
 pub occurrences-right : Occurrences-right
 unfolding Occurrences-right
 occurrences-right e h =
-    let next = next-occurrence-is e h in
-    (next, λ d n. (
-        let q : d + n - d ≡ n = omega arith in
-        one-by-one-is (occurs e) (next-occurrence e) next n d (d + n) (omega arith) ∙ ap (λ k. those (occurs e) (days-from d k)) q))
+    let next = next-occurrence-is e h in (
+      next,
+      λ d n. (
+          let q : d + n - d ≡ n = omega arith in
+          one-by-one-is (occurs e) (next-occurrence e) next n d (d + n) (omega arith) ∙ ap (λ k. those (occurs e) (days-from d k)) q),
+    )
+
+-- an event's repeat and first day are within the bounds
+within : (r : Repeat) (f d : ℕ) → a-repeat r ≡ true → a-day f ≡ true → r .kind ≤ 2 → d ≤ 4294967296 → known r f d ≡ true
+within r f d a b k l = grind (arith, tells)
+
+pub all-known : All-known
+unfolding All-known
+all-known e d h k l =
+    let p = and-parts _ _ h in
+    within (e .repeat) (e .first) d (and-parts _ _ (p .1) .0) (and-parts _ _ (and-parts _ _ (and-parts _ _ (p .0) .1) .0) .0) k l
 
 -- it stays known up to the day after the last
 known-on : (r : Repeat) (f d x : ℕ) → known r f d ≡ true → falls r f x ≡ true → (known r f x ≡ true) × (known r f (x + 1) ≡ true) × (x < 4294967296)

@@ -25,6 +25,10 @@ None-from p a = (t : ℕ) → a ≤ t → p t ≡ false
 abbrev pub Next : (ℕ → Bool) → ℕ → Option ℕ → Type 0
 Next p a o = Cases o (None-from p a) (λ x. First p a x)
 
+-- how many days it has fallen on, up to a day
+abbrev pub fallen : Repeat → ℕ → ℕ → ℕ
+fallen r f d = pick (ltb d f) 0 (so-often r f (d - f))
+
 -- THE RULES ARE RIGHT: they tell what is found by looking at every day
 unfoldable pub Rules-right : Type 0
 Rules-right = (r : Repeat) (f : ℕ) → fits r f ≡ true → ((d : ℕ) → Next (falls r f) d (next-day r f d)) × ((n : ℕ) → often r f n ≡ so-often r f n)
@@ -34,6 +38,12 @@ abbrev pub answer : Bool → Option ℕ → Answer
 answer false o = NotKnown
 answer true None = Never
 answer true (Some x) = On x
+
+-- an answer as one number, the largest of 64 bits where there is no day
+abbrev pub number : Answer → ℕ
+number NotKnown = 18446744073709551615
+number Never = 18446744073709551615
+number (On x) = x
 
 -- what it tells of the days from one on
 abbrev pub Tells : Bool → (ℕ → Bool) → ℕ → Answer → Type 0

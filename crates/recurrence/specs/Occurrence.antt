@@ -8,10 +8,11 @@ use lib.ListN.{length}
 use Rattle.std.specs.declared.option.Option.{Option}
 use Rattle.std.specs.declared.option.Option.the-variants.{None, Some}
 use Rattle.pages.specs.Lists.{or, pick, those}
-use Rattle.recurrence.specs.Event.{Event, falls, has, occurs, so-often}
+use Rattle.recurrence.specs.Event.{Event, an-event, has, occurs, so-often}
 use Rattle.recurrence.specs.Span.{days-from}
-use Rattle.recurrence.specs.ByRule.{fits, next-day}
+use Rattle.recurrence.specs.ByRule.{fits, known, next-day}
 use Rattle.recurrence.specs.First.{Next}
+use Rattle.recurrence.specs.Week.{days-of, no-days, with-day}
 
 -- a day on which it falls is one of its number of times, left-out days counted too
 abbrev pub counts : Event → ℕ → Bool
@@ -46,3 +47,21 @@ unfoldable pub Occurrences-right : Type 0
 Occurrences-right =
     (e : Event) → fits (e .repeat) (e .first) ≡ true →
     ((d : ℕ) → Next (occurs e) d (next-occurrence e d)) × ((d n : ℕ) → one-by-one (next-occurrence e) n d (d + n) ≡ those (occurs e) (days-from d n))
+
+-- every event of these kinds is known, on every day
+unfoldable pub All-known : Type 0
+All-known = (e : Event) (d : ℕ) → an-event e ≡ true → e .repeat .kind ≤ 2 → d ≤ 4294967296 → known (e .repeat) (e .first) d ≡ true
+
+-- an event of every so-manieth week on one weekday
+abbrev pub weekly-event : ℕ → ℕ → ℕ → ℕ → Event
+weekly-event f s w l =
+    record {
+      title = [];
+      zone = 0;
+      first = f;
+      minute = 0;
+      long = 1;
+      busy = false;
+      repeat = record { kind = 2; step = s; weekdays = days-of (with-day w no-days); times = 0; last = l };
+      left-out = [];
+    }

@@ -12,8 +12,7 @@ ghost use Rattle.recurrence.specs.Promise.{No-more-times};
 ghost use Rattle.recurrence.specs.Value.{event-with, repeat-of};
 ghost use Rattle.recurrence.specs.ByRule.{known};
 ghost use Rattle.recurrence.specs.First.{answer};
-ghost use Rattle.recurrence.specs.Occurrence.{counts, next-occurrence, Occurrences-right};
-
+ghost use Rattle.recurrence.specs.Occurrence.{counts, next-occurrence, All-known, Occurrences-right};
 use crate::event::Event;
 use crate::rule::Answer;
 
@@ -39,6 +38,7 @@ impl Event {
     pub fn next_occurrence(self, left_out: &[u64], from: u64) -> Answer
         ensures is { λ r. ⌜ (rising (now («left_out» .entry)) ≡ true → r ≡ answer (known (repeat-of (self .repeat)) (self .first) from) (next-occurrence (event-with self [] (now («left_out» .entry))) from)) ⌝ }
         ensures right { λ _. ⌜ Occurrences-right ⌝ }
+        ensures known { λ _. ⌜ All-known ⌝ }
     {
         if !self.repeat.knows(self.first, from) {
             return Answer::NotKnown;

@@ -2,14 +2,13 @@
 // No loop goes over days, weeks or times, so an answer costs the same however long ago the first day was.
 ghost use mathlib.Core.Path.{_≡_};
 ghost use mathlib.Core.Bool.{true};
-ghost use Prim.Native.Nat.{_+_, _-_, _/_, _^_, _<_, _≤_};
+ghost use Prim.Native.Nat.{_-_, _^_, _≤_};
 ghost use Rattle.std.specs.declared.option.Option.the-variants.{Some, None};
 ghost use Rattle.pages.specs.Lists.{pick};
-ghost use Rattle.recurrence.specs.Event.{falls, so-often};
+ghost use Rattle.recurrence.specs.Event.{falls};
 ghost use Rattle.recurrence.specs.Value.{repeat-of};
 ghost use Rattle.recurrence.specs.ByRule.{fits, known, next-daily, next-day, next-due, often};
-ghost use Rattle.recurrence.specs.First.{answer, Tells, Rules-right};
-
+ghost use Rattle.recurrence.specs.First.{answer, fallen, number, Tells, Rules-right};
 use crate::event::Kind;
 use crate::event::Repeat;
 use crate::weekly::next_weekly;
@@ -21,6 +20,18 @@ pub enum Answer {
     NotKnown,
     Never,
     On(u64),
+}
+
+impl Answer {
+    // The day, or the largest number where there is none.
+    pub(crate) fn number(self) -> u64
+        ensures { λ r. ⌜ r ≡ number self ⌝ }
+    {
+        match self {
+            Answer::On(day) => day,
+            _ => u64::MAX,
+        }
+    }
 }
 
 // Far from every day, and so small that no sum of a few days leaves 64 bits.
@@ -42,11 +53,17 @@ impl Repeat {
         }
     }
 
-    // How often it falls from its first day up to a day; none where that isn't known.
+    // How many days it has fallen on, from its first day up to a day; none where that isn't known.
     pub fn count(self, first: u64, day: u64) -> Option<u64>
-        ensures { λ r. ⌜ r ≡ pick (known (repeat-of self) first day) (Some (so-often (repeat-of self) first (day - first))) None ⌝ }
+        ensures { λ r. ⌜ r ≡ pick (known (repeat-of self) first day) (Some (fallen (repeat-of self) first day)) None ⌝ }
     {
-        if self.knows(first, day) { Some(self.count_known(first, day)) } else { None }
+        if !self.knows(first, day) {
+            return None;
+        }
+        if day < first {
+            return Some(0);
+        }
+        Some(self.count_known(first, day))
     }
 
     pub(crate) fn knows(self, first: u64, day: u64) -> bool
@@ -56,7 +73,12 @@ impl Repeat {
             Kind::Once | Kind::Daily | Kind::Weekly => true,
             _ => false,
         };
-        by_rule && 1 <= self.step && self.step <= LIMIT && first <= LIMIT && self.last < LIMIT && day <= LIMIT
+        by_rule
+            && 1 <= self.step
+            && self.step <= LIMIT
+            && first <= LIMIT
+            && self.last < LIMIT
+            && day <= LIMIT
     }
 
     pub(crate) fn next_known(self, first: u64, from: u64) -> Option<u64>
@@ -81,6 +103,7 @@ impl Repeat {
         }
     }
 
+    // The same, and the first day's own before it.
     pub(crate) fn count_known(self, first: u64, day: u64) -> u64
         requires { ⌜ known (repeat-of self) first day ≡ true ⌝ }
         ensures { λ r. ⌜ r ≡ often (repeat-of self) first (day - first) ⌝ }
@@ -103,5 +126,9 @@ fn next_daily(step: u64, first: u64, start: u64) -> u64
     ensures { λ r. ⌜ r ≡ next-daily step first start ⌝ }
 {
     let past = (start - first) % step;
-    if past == 0 { start } else { start + (step - past) }
+    if past == 0 {
+        start
+    } else {
+        start + (step - past)
+    }
 }

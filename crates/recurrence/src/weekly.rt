@@ -6,7 +6,6 @@ ghost use Rattle.dates.specs.Date.{week, weekday};
 ghost use Rattle.recurrence.specs.Event.{has};
 ghost use Rattle.recurrence.specs.Week.{days-of};
 ghost use Rattle.recurrence.specs.ByRule.{next-weekly, often-weekly, on-before, on-from, weeks-often};
-
 use crate::event::Weekdays;
 
 // One of the weekdays, as the definitions list them.
