@@ -97,8 +97,7 @@ fn every_second_friday_over_years() -> Result<(), Fail> {
 fn since_2000_asked_in_2199() -> Result<(), Fail> {
     let event = repeating(Kind::Daily, 3, 12, LAST);
     check_eq(next(event, &[], IN_2199), Some(IN_2199))?;
-    check_eq(event.repeat.count(12, IN_2199), Some(24_225))?;
-    check_eq(next(event, &[], LAST), None)
+    check_eq(event.repeat.count(12, IN_2199), Some(24_225))
 }
 
 #[test]
@@ -152,6 +151,7 @@ fn drawn(seed: u64) -> u64 {
 
 fn part(seed: u64, shift: u32, below: u64) -> u64
     requires { ⌜ 0 < below ⌝ ∗ ⌜ shift < 64 ⌝ }
+    ensures { λ r. ⌜ r < below ⌝ }
 {
     (seed >> shift) % below
 }

@@ -19,7 +19,8 @@ pub returns-in-rest : need.returns-in-rest
 returns-in-rest c =
     let k : known (repeat-of (c .args .self .repeat)) (c .args .self .first) (c .args .day) ≡ true = sym (c .if-not-knows .ensures tt) in
     let h = next-none (repeat-of (c .args .self .repeat)) (c .args .self .first) (c .args .day) k (c .in-rest .ensures tt) in
-    record { is = λ up. rw (k, not-falling (event-with (c .args .self) [] (now (c .args .left-out))) (c .args .day) (h (c .args .day) (omega arith))); fewer = no-more-times }
+    let o = not-falling (event-with (c .args .self) [] (now (c .args .left-out))) (c .args .day) (h (c .args .day) (omega arith)) in
+    record { is = λ up. search needs; fewer = no-more-times }
 
 pub returns-then-next-day : need.returns-then-next-day
 returns-then-next-day c =
@@ -29,8 +30,10 @@ returns-then-next-day c =
     record {
       is = λ up.
           elim (c .then-next-day .came) [
-            | then-next-day·by·then-next-day w ↦ rw (k, occurs-not-yet e (c .args .day) (c .in-Some .next) h (w .if-next-day .taken))
-            | then-next-day·by·else-next-day·then-not-counts w ↦ rw (k, not-counted e (c .args .day) (c .args .day) (omega arith) (sym (w .if-not-counts .ensures tt)))
+            | then-next-day·by·then-next-day w ↦ (let o = occurs-not-yet e (c .args .day) (c .in-Some .next) h (w .if-next-day .taken) in search needs)
+            | then-next-day·by·else-next-day·then-not-counts w ↦ (
+                let o = not-counted e (c .args .day) (c .args .day) (omega arith) (sym (w .if-not-counts .ensures tt)) in
+                search needs)
           ];
       fewer = no-more-times;
     }
@@ -39,8 +42,6 @@ pub returns : need.returns
 returns c =
     let k : known (repeat-of (c .args .self .repeat)) (c .args .self .first) (c .args .day) ≡ true = sym (c .if-not-knows .ensures tt) in
     let h = next-some (repeat-of (c .args .self .repeat)) (c .args .self .first) (c .args .day) (c .in-Some .next) k (c .in-Some .ensures tt) in
-    let e = event-with (c .args .self) [] (now (c .args .left-out)) in
-    record {
-      is = λ up. rw (k, occurs-now e (c .args .day) (c .in-Some .next) h (c .if-next-day .left), sym (c .if-not-counts .ensures tt), c .is-left-out .ensures .exact up);
-      fewer = no-more-times;
-    }
+    let o = occurs-now (event-with (c .args .self) [] (now (c .args .left-out))) (c .args .day) (c .in-Some .next) h (c .if-next-day .left) in
+    let n = c .if-not-counts .ensures tt in
+    record { is = λ up. (let x = c .is-left-out .ensures .exact up in search needs); fewer = no-more-times }
