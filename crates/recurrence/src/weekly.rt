@@ -30,7 +30,7 @@ fn on_from(weekdays: Weekdays, start: u64) -> Option<u64>
 }
 
 // The first day from one on, which is not before the first.
-pub fn next_weekly(step: u64, weekdays: Weekdays, first: u64, start: u64) -> Option<u64>
+pub(crate) fn next_weekly(step: u64, weekdays: Weekdays, first: u64, start: u64) -> Option<u64>
     requires { ⌜ 1 ≤ step ⌝ ∗ ⌜ step ≤ 2 ^ 32 ⌝ ∗ ⌜ first ≤ start ⌝ ∗ ⌜ start ≤ 2 ^ 32 ⌝ }
     ensures { λ r. ⌜ r ≡ next-weekly (has (days-of weekdays)) step first start ⌝ }
 {
@@ -76,7 +76,7 @@ fn weeks_often(step: u64, weekdays: Weekdays, weeks: u64, end: u64) -> u64
 }
 
 // How often from the first day to so many days after it.
-pub fn often_weekly(step: u64, weekdays: Weekdays, first: u64, days: u64) -> u64
+pub(crate) fn often_weekly(step: u64, weekdays: Weekdays, first: u64, days: u64) -> u64
     requires { ⌜ 1 ≤ step ⌝ ∗ ⌜ step ≤ 2 ^ 32 ⌝ ∗ ⌜ first ≤ 2 ^ 32 ⌝ ∗ ⌜ days ≤ 2 ^ 32 ⌝ }
     ensures { λ r. ⌜ r ≡ often-weekly (has (days-of weekdays)) step first days ⌝ }
 {
