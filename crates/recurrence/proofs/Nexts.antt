@@ -18,7 +18,7 @@ use Rattle.recurrence.specs.Event.{Repeat, has, falls, so-often}
 use Rattle.recurrence.specs.ByRule.{fits, known, next-daily, on-from, in-week, or-else, weeks-past, next-weekly, up-to, next-due, next-day, often}
 use Rattle.recurrence.specs.First.{First, None-from, Next, Rules-right, answer, Tells}
 use Rattle.recurrence.specs.declared.rule.Answer.{Answer}
-use Rattle.recurrence.proofs.Steps.{sum-past, sum-whole, due, falls-past, falls-due, Fits-rule, fits-rule}
+use Rattle.recurrence.proofs.Steps.{sum-past, sum-whole, due, falls-past, falls-due, fits-parts}
 use Rattle.recurrence.proofs.Counting.{often-is}
 
 daily-is : (s f a : ℕ) → 0 < s → f ≤ a → First (λ d. eqb ((d - f) % s) 0) a (next-daily s f a)
@@ -196,12 +196,15 @@ module _ (r : Repeat) (f d : ℕ) (kind : r .kind ≤ 2) where
 pub next-is : (r : Repeat) (f d : ℕ) → fits r f ≡ true → Next (falls r f) d (next-day r f d)
 unfolding next-day
 next-is r f d h =
-    let p = fits-rule r f h in
-    from-due r f d (p .kind) (next-due r f (max d f)) (due-is r f (max d f) (p .kind) (p .pos) (omega arith))
+    let p = fits-parts r f h in
+    from-due r f d (p .0) (next-due r f (max d f)) (due-is r f (max d f) (p .0) (p .1) (omega arith))
 
 pub rules-right : Rules-right
 unfolding Rules-right
-rules-right r f h = let p = fits-rule r f h in ((λ d. next-is r f d h), λ n. often-is r f (p .kind) (p .pos) n)
+rules-right r f h = let p = fits-parts r f h in ((λ d. next-is r f d h), λ n. often-is r f (p .0) (p .1) n)
+
+pub known-fits : (r : Repeat) (f d : ℕ) → known r f d ≡ true → fits r f ≡ true
+known-fits r f d h = grind (arith, tells)
 
 -- the answer of the code
 told : (k : Bool) (p : ℕ → Bool) (a : ℕ) (o : Option ℕ) → (k ≡ true → Next p a o) → Tells k p a (answer k o)
@@ -211,13 +214,10 @@ told true p a (Some x) h = (refl, h refl)
 
 pub next-told : (r : Repeat) (f d : ℕ) (a : Answer) → a ≡ answer (known r f d) (next-day r f d) → Tells (known r f d) (falls r f) d a
 next-told r f d a e =
-    rw e (told (known r f d) (falls r f) d (next-day r f d) (λ h. next-is r f d (grind (arith, tells))))
+    rw e (told (known r f d) (falls r f) d (next-day r f d) (λ h. next-is r f d (known-fits r f d h)))
 
 pub count-told : (r : Repeat) (f d n : ℕ) → known r f d ≡ true → often r f n ≡ so-often r f n
-count-told r f d n h = let p = fits-rule r f (grind (arith, tells)) in often-is r f (p .kind) (p .pos) n
-
-pub known-fits : (r : Repeat) (f d : ℕ) → known r f d ≡ true → fits r f ≡ true
-known-fits r f d h = grind (arith, tells)
+count-told r f d n h = let p = fits-parts r f (known-fits r f d h) in often-is r f (p .0) (p .1) n
 
 pub next-some : (r : Repeat) (f d x : ℕ) → known r f d ≡ true → Some x ≡ next-day r f d → First (falls r f) d x
 next-some r f d x h e = rw (sym e) at (next-is r f d (known-fits r f d h))

@@ -17,7 +17,7 @@ use Rattle.pages.specs.Lists.{or, pick, those}
 use Rattle.dates.specs.Limits.{a-day}
 use Rattle.recurrence.specs.Event.{Repeat, Event, a-repeat, falls, has, occurs, so-often}
 use Rattle.recurrence.specs.Span.{days-from}
-use Rattle.recurrence.specs.ByRule.{fits, known, next-day}
+use Rattle.recurrence.specs.ByRule.{day-limit, fits, known, next-day}
 use Rattle.recurrence.specs.First.{First, None-from, Next}
 use Rattle.recurrence.specs.Occurrence.{counts, unless-left-out, passing, next-occurrence, then-on, one-by-one, Occurrences-right, All-known}
 use Rattle.recurrence.proofs.Nexts.{known-fits, next-is, next-none, next-some}
@@ -191,7 +191,7 @@ occurrences-right e h =
     )
 
 -- an event's repeat and first day are within the bounds
-within : (r : Repeat) (f d : ℕ) → a-repeat r ≡ true → a-day f ≡ true → r .kind ≤ 2 → d ≤ 4294967296 → known r f d ≡ true
+within : (r : Repeat) (f d : ℕ) → a-repeat r ≡ true → a-day f ≡ true → r .kind ≤ 2 → d ≤ day-limit → known r f d ≡ true
 within r f d a b k l = grind (arith, tells)
 
 pub all-known : All-known
@@ -201,7 +201,7 @@ all-known e d h k l =
     within (e .repeat) (e .first) d (and-parts _ _ (p .1) .0) (and-parts _ _ (and-parts _ _ (and-parts _ _ (p .0) .1) .0) .0) k l
 
 -- it stays known up to the day after the last
-known-on : (r : Repeat) (f d x : ℕ) → known r f d ≡ true → falls r f x ≡ true → (known r f x ≡ true) × (known r f (x + 1) ≡ true) × (x < 4294967296)
+known-on : (r : Repeat) (f d x : ℕ) → known r f d ≡ true → falls r f x ≡ true → (known r f x ≡ true) × (known r f (x + 1) ≡ true) × (x < day-limit)
 unfolding falls
 known-on r f d x h k = (grind (arith, tells), grind (arith, tells), grind (arith, tells))
 
@@ -217,7 +217,7 @@ module _ (e : Event) (a d : ℕ) (k : known (e .repeat) (e .first) d ≡ true) w
     next-x : First (falls (e .repeat) (e .first)) d x
     next-x = next-some (e .repeat) (e .first) d x k n
 
-    pub turn-known : (known (e .repeat) (e .first) x ≡ true) × (known (e .repeat) (e .first) (x + 1) ≡ true) × (x < 4294967296)
+    pub turn-known : (known (e .repeat) (e .first) x ≡ true) × (known (e .repeat) (e .first) (x + 1) ≡ true) × (x < day-limit)
     turn-known = known-on (e .repeat) (e .first) d x k (next-x .comes)
 
     pub turn-fewer : has (e .left-out) x ≡ true → left-from (e .left-out) (x + 1) < left-from (e .left-out) d

@@ -49,14 +49,5 @@ pub falls-due : (r : Repeat) (f d : ℕ) → r .kind ≤ 2 → f ≤ d → d ≤
 unfolding falls
 falls-due r f d k l m = grind (arith, tells)
 
--- what fits, in parts
-pub record Fits-rule (r : Repeat) (f : ℕ) : Type 0 where
-  pub kind : r .kind ≤ 2
-  pub pos : 0 < r .step
-  pub step : r .step ≤ 4294967296
-  pub first : f ≤ 4294967296
-  pub last : r .last < 4294967296
-
-pub fits-rule : (r : Repeat) (f : ℕ) → fits r f ≡ true → Fits-rule r f
-fits-rule r f h =
-    record { kind = grind (arith, tells); pos = grind (arith, tells); step = grind (arith, tells); first = grind (arith, tells); last = grind (arith, tells) }
+pub fits-parts : (r : Repeat) (f : ℕ) → fits r f ≡ true → (r .kind ≤ 2) × (0 < r .step)
+fits-parts r f h = (grind (arith, tells), grind (arith, tells))

@@ -9,12 +9,16 @@ use Rattle.pages.specs.Lists.{pick}
 use Rattle.dates.specs.Date.{weekday, week}
 use Rattle.recurrence.specs.Event.{Repeat, has}
 
--- what the rules below are for; the bounds, 2 ^ 32, are far from every day, and keep all sums within 64 bits
+-- far from every day, and so small that no sum of a few days leaves 64 bits
+abbrev pub day-limit : ℕ
+day-limit = 4294967296
+
+-- what the rules below are for: the repeats and first days, and with them the days
 abbrev pub fits : Repeat → ℕ → Bool
-fits r f = (leb (r .kind) 2 && (leb 1 (r .step) && leb (r .step) 4294967296)) && (leb f 4294967296 && ltb (r .last) 4294967296)
+fits r f = (leb (r .kind) 2 && (leb 1 (r .step) && leb (r .step) day-limit)) && (leb f day-limit && ltb (r .last) day-limit)
 
 abbrev pub known : Repeat → ℕ → ℕ → Bool
-known r f d = fits r f && leb d 4294967296
+known r f d = fits r f && leb d day-limit
 
 -- by days: the first from a on, which is not before f
 abbrev pub next-daily : ℕ → ℕ → ℕ → ℕ

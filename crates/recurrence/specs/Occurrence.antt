@@ -10,7 +10,7 @@ use Rattle.std.specs.declared.option.Option.the-variants.{None, Some}
 use Rattle.pages.specs.Lists.{or, pick, those}
 use Rattle.recurrence.specs.Event.{Event, an-event, has, occurs, so-often}
 use Rattle.recurrence.specs.Span.{days-from}
-use Rattle.recurrence.specs.ByRule.{fits, known, next-day}
+use Rattle.recurrence.specs.ByRule.{day-limit, fits, known, next-day}
 use Rattle.recurrence.specs.First.{Next}
 use Rattle.recurrence.specs.Week.{days-of, no-days, with-day}
 
@@ -50,7 +50,7 @@ Occurrences-right =
 
 -- every event of these kinds is known, on every day
 unfoldable pub All-known : Type 0
-All-known = (e : Event) (d : ℕ) → an-event e ≡ true → e .repeat .kind ≤ 2 → d ≤ 4294967296 → known (e .repeat) (e .first) d ≡ true
+All-known = (e : Event) (d : ℕ) → an-event e ≡ true → e .repeat .kind ≤ 2 → d ≤ day-limit → known (e .repeat) (e .first) d ≡ true
 
 -- an event of every so-manieth week on one weekday
 abbrev pub weekly-event : ℕ → ℕ → ℕ → ℕ → Event

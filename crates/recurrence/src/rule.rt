@@ -2,12 +2,12 @@
 // No loop goes over days, weeks or times, so an answer costs the same however long ago the first day was.
 ghost use mathlib.Core.Path.{_≡_};
 ghost use mathlib.Core.Bool.{true};
-ghost use Prim.Native.Nat.{_-_, _^_, _≤_};
+ghost use Prim.Native.Nat.{_-_, _≤_};
 ghost use Rattle.std.specs.declared.option.Option.the-variants.{Some, None};
 ghost use Rattle.pages.specs.Lists.{pick};
 ghost use Rattle.recurrence.specs.Event.{falls};
 ghost use Rattle.recurrence.specs.Value.{repeat-of};
-ghost use Rattle.recurrence.specs.ByRule.{fits, known, next-daily, next-day, next-due, often};
+ghost use Rattle.recurrence.specs.ByRule.{day-limit, known, next-daily, next-day, next-due, often};
 ghost use Rattle.recurrence.specs.First.{answer, fallen, number, Tells, Rules-right};
 use crate::event::Kind;
 use crate::event::Repeat;
@@ -34,7 +34,7 @@ impl Answer {
     }
 }
 
-// Far from every day, and so small that no sum of a few days leaves 64 bits.
+// Far from every day, and so small that no sum leaves 64 bits.
 const LIMIT: u64 = 4_294_967_296;
 
 impl Repeat {
@@ -66,6 +66,7 @@ impl Repeat {
         Some(self.count_known(first, day))
     }
 
+    // Its kind is one of these, and no number is out of range.
     pub(crate) fn knows(self, first: u64, day: u64) -> bool
         ensures { λ r. ⌜ r ≡ known (repeat-of self) first day ⌝ }
     {
@@ -103,7 +104,7 @@ impl Repeat {
         }
     }
 
-    // The same, and the first day's own before it.
+    // The same; of a day before the first it answers as of the first.
     pub(crate) fn count_known(self, first: u64, day: u64) -> u64
         requires { ⌜ known (repeat-of self) first day ≡ true ⌝ }
         ensures { λ r. ⌜ r ≡ often (repeat-of self) first (day - first) ⌝ }
@@ -122,7 +123,7 @@ impl Repeat {
 
 // Every so many days, with no last day.
 fn next_daily(step: u64, first: u64, start: u64) -> u64
-    requires { ⌜ 1 ≤ step ⌝ ∗ ⌜ step ≤ 2 ^ 32 ⌝ ∗ ⌜ first ≤ start ⌝ ∗ ⌜ start ≤ 2 ^ 32 ⌝ }
+    requires { ⌜ 1 ≤ step ⌝ ∗ ⌜ step ≤ day-limit ⌝ ∗ ⌜ first ≤ start ⌝ ∗ ⌜ start ≤ day-limit ⌝ }
     ensures { λ r. ⌜ r ≡ next-daily step first start ⌝ }
 {
     let past = (start - first) % step;

@@ -1,3 +1,4 @@
+// What must not go wrong, by name; and events drawn at random, beside a look at every day.
 ghost use Prim.Native.Nat.{_<_};
 use crate::event::*;
 use crate::rule::Answer;
@@ -112,6 +113,13 @@ fn last_day_before_the_first() -> Result<(), Fail> {
     check_eq(next(event, &[], 40), None)?;
     check_eq(event.occurs(&[], 100), Some(false))?;
     check_eq(event.repeat.count(100, 200), Some(0))
+}
+
+#[test]
+fn first_day_on_none_of_its_weekdays() -> Result<(), Fail> {
+    let event = weekly(1, Weekdays::none().with(0), WEDNESDAY);
+    check_eq(event.occurs(&[], WEDNESDAY), Some(false))?;
+    check_eq(next(event, &[], WEDNESDAY), Some(WEDNESDAY + 5))
 }
 
 #[test]

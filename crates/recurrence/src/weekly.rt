@@ -1,11 +1,11 @@
 // On given weekdays of every so-manieth week. The only loops go over the seven weekdays.
 ghost use mathlib.Core.Path.{_≡_};
-ghost use Prim.Native.Nat.{_+_, _-_, _^_, _<_, _≤_};
+ghost use Prim.Native.Nat.{_+_, _-_, _<_, _≤_};
 ghost use Rattle.std.specs.Options.{Cases};
 ghost use Rattle.dates.specs.Date.{week, weekday};
 ghost use Rattle.recurrence.specs.Event.{has};
 ghost use Rattle.recurrence.specs.Week.{days-of};
-ghost use Rattle.recurrence.specs.ByRule.{next-weekly, often-weekly, on-before, on-from, weeks-often};
+ghost use Rattle.recurrence.specs.ByRule.{day-limit, next-weekly, often-weekly, on-before, on-from, weeks-often};
 use crate::event::Weekdays;
 
 // One of the weekdays, as the definitions list them.
@@ -31,7 +31,7 @@ fn on_from(weekdays: Weekdays, start: u64) -> Option<u64>
 
 // The first day from one on, which is not before the first.
 pub(crate) fn next_weekly(step: u64, weekdays: Weekdays, first: u64, start: u64) -> Option<u64>
-    requires { ⌜ 1 ≤ step ⌝ ∗ ⌜ step ≤ 2 ^ 32 ⌝ ∗ ⌜ first ≤ start ⌝ ∗ ⌜ start ≤ 2 ^ 32 ⌝ }
+    requires { ⌜ 1 ≤ step ⌝ ∗ ⌜ step ≤ day-limit ⌝ ∗ ⌜ first ≤ start ⌝ ∗ ⌜ start ≤ day-limit ⌝ }
     ensures { λ r. ⌜ r ≡ next-weekly (has (days-of weekdays)) step first start ⌝ }
 {
     let this = (start + 5) / 7;
@@ -63,7 +63,7 @@ fn on_before(weekdays: Weekdays, end: u64) -> u64
 
 // Those of whole weeks before a week, and of that week up to a weekday.
 fn weeks_often(step: u64, weekdays: Weekdays, weeks: u64, end: u64) -> u64
-    requires { ⌜ 1 ≤ step ⌝ ∗ ⌜ step ≤ 2 ^ 32 ⌝ ∗ ⌜ weeks ≤ 2 ^ 32 ⌝ ∗ ⌜ end < 7 ⌝ }
+    requires { ⌜ 1 ≤ step ⌝ ∗ ⌜ step ≤ day-limit ⌝ ∗ ⌜ weeks ≤ day-limit ⌝ ∗ ⌜ end < 7 ⌝ }
     ensures { λ r. ⌜ r ≡ weeks-often (has (days-of weekdays)) step weeks end ⌝ }
 {
     let turns = (weeks + step - 1) / step;
@@ -77,7 +77,7 @@ fn weeks_often(step: u64, weekdays: Weekdays, weeks: u64, end: u64) -> u64
 
 // How often from the first day to so many days after it.
 pub(crate) fn often_weekly(step: u64, weekdays: Weekdays, first: u64, days: u64) -> u64
-    requires { ⌜ 1 ≤ step ⌝ ∗ ⌜ step ≤ 2 ^ 32 ⌝ ∗ ⌜ first ≤ 2 ^ 32 ⌝ ∗ ⌜ days ≤ 2 ^ 32 ⌝ }
+    requires { ⌜ 1 ≤ step ⌝ ∗ ⌜ step ≤ day-limit ⌝ ∗ ⌜ first ≤ day-limit ⌝ ∗ ⌜ days ≤ day-limit ⌝ }
     ensures { λ r. ⌜ r ≡ often-weekly (has (days-of weekdays)) step first days ⌝ }
 {
     let here = first + days + 5;
