@@ -1,17 +1,17 @@
 -- The closed forms count what the definition counts by looking at every day.
 use mathlib.Core.Path.{_≡_, refl, sym, ap, _∙_}
 use mathlib.Core.Logic.{_⊎_, inl, inr}
-use mathlib.Core.Bool.{Bool, true, false, _&&_}
-use Prim.Native.Nat.{ℕ, zero, suc, _+_, _*_, _-_, _/_, _%_, _≤_, _<_, min, max}
+use mathlib.Core.Bool.{Bool, _&&_}
+use Prim.Native.Nat.{ℕ, zero, suc, _+_, _-_, _/_, _%_, _≤_, _<_, min}
 use native.Mathlib.Nat.{div-eq-of-lt, zero-mod, zero-div, sub-self, add-mod-right, mul-add}
 use native.Mathlib.Numerals.{add-one}
 use native.Mathlib.Omega.{arith}
-use lib.Dec.{eqb, ltb, leb}
+use lib.Dec.{eqb, leb}
 use Rattle.std.proofs.shelf.Ways.{tells}
-use Rattle.std.proofs.shelf.Tests.{cases-lt, le-leb, lt-leb, eq-eqb, ne-eqb}
+use Rattle.std.proofs.shelf.Tests.{cases-lt, le-leb, lt-leb}
 use Rattle.pages.specs.Lists.{pick}
 use Rattle.dates.specs.Date.{weekday, week}
-use Rattle.recurrence.specs.Event.{Repeat, has, falls, so-often}
+use Rattle.recurrence.specs.Event.{Repeat, has, so-often}
 use Rattle.recurrence.specs.ByRule.{on-before, weeks-often, often-weekly, often-due, often}
 use Rattle.recurrence.proofs.Steps.{div-suc, due, falls-past, falls-due}
 

@@ -1,16 +1,13 @@
 -- An event with a number of times has no more.
-use mathlib.Core.Path.{_≡_, refl, sym, ap, _∙_}
+use mathlib.Core.Path.{_≡_, refl, ap}
 use mathlib.Core.Logic.{_⊎_, inl, inr}
-use mathlib.Core.Bool.{Bool, true, false, _&&_, not}
-use mathlib.Core.List.{List, [], _∷_}
+use mathlib.Core.Bool.{true}
 use Prim.Native.Nat.{ℕ, zero, suc, _+_, _-_, _≤_, _<_}
 use native.Mathlib.Omega.{arith}
-use lib.Dec.{eqb, ltb, leb}
-use lib.ListN.{length}
 use Rattle.std.proofs.shelf.Ways.{tells}
 use Rattle.std.proofs.shelf.Tests.{cases-bool}
-use Rattle.pages.specs.Lists.{pick, or, those}
-use Rattle.recurrence.specs.Event.{Repeat, Event, has, falls, so-often, occurs}
+use Rattle.pages.specs.Lists.{pick}
+use Rattle.recurrence.specs.Event.{Event, falls, so-often, occurs}
 use Rattle.recurrence.specs.Span.{days-from}
 use Rattle.recurrence.specs.Promise.{count-in, No-more-times}
 

@@ -1,11 +1,11 @@
 -- Days looked up in a rising list, and how many of them are left from a day on.
 use mathlib.Core.Path.{_≡_, refl, sym}
-use mathlib.Core.Logic.{_⊎_, inl, inr, _≢_}
-use mathlib.Core.Bool.{Bool, true, false, _&&_}
+use mathlib.Core.Logic.{inl, inr, _≢_}
+use mathlib.Core.Bool.{true, false}
 use mathlib.Core.List.{List, [], _∷_}
 use Prim.Native.Nat.{ℕ, zero, suc, _+_, _≤_, _<_}
 use native.Mathlib.Omega.{arith}
-use lib.Dec.{eqb, ltb, leb}
+use lib.Dec.{leb}
 use lib.ListN.{length, getD}
 use Rattle.std.specs.Places.{Located}
 use Rattle.std.specs.shelf.Sorted.{unsigned}
@@ -13,7 +13,7 @@ use Rattle.std.specs.declared.result.Result.the-variants.{Ok, Err}
 use Rattle.std.proofs.shelf.Ways.{tells}
 use Rattle.std.proofs.shelf.Sorted.{searched}
 use Rattle.std.proofs.shelf.Tests.{cases-lt, cases-eq, eq-eqb, ne-eqb}
-use Rattle.pages.specs.Lists.{or, pick, those}
+use Rattle.pages.specs.Lists.{those}
 use Rattle.recurrence.specs.Event.{has, rising}
 
 has-at : (ks : List ℕ) (i x : ℕ) → i < length ks → getD ks i 0 ≡ x → has ks x ≡ true

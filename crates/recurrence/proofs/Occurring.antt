@@ -1,19 +1,17 @@
 -- The next occurrence, and the occurrences one after the other.
 use mathlib.Core.Path.{_≡_, refl, sym, ap, _∙_}
-use mathlib.Core.Logic.{_⊎_, inl, inr}
+use mathlib.Core.Logic.{inl, inr}
 use mathlib.Core.Bool.{Bool, true, false, _&&_, not}
 use mathlib.Core.List.{List, [], _∷_, _++_}
 use Prim.Native.Nat.{ℕ, zero, suc, _+_, _-_, _≤_, _<_}
 use native.Mathlib.Numerals.{add-one}
 use native.Mathlib.Omega.{arith}
-use lib.Dec.{eqb, ltb, leb}
 use lib.ListN.{length}
-use Rattle.std.specs.Options.{Cases}
 use Rattle.std.specs.declared.option.Option.{Option}
 use Rattle.std.specs.declared.option.Option.the-variants.{None, Some}
 use Rattle.std.proofs.shelf.Ways.{tells}
-use Rattle.std.proofs.shelf.Tests.{and-parts, cases-bool, cases-lt, cases-eq, lt-ltb, le-ltb, false≢true}
-use Rattle.pages.specs.Lists.{or, pick, those}
+use Rattle.std.proofs.shelf.Tests.{and-parts, cases-bool, cases-lt, lt-ltb, le-ltb, false≢true}
+use Rattle.pages.specs.Lists.{those}
 use Rattle.dates.specs.Limits.{a-day}
 use Rattle.recurrence.specs.Event.{Repeat, Event, a-repeat, falls, has, occurs, so-often}
 use Rattle.recurrence.specs.Span.{days-from}

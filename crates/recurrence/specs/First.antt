@@ -1,15 +1,13 @@
 -- The first day from one on at which a test holds, and what an answer tells of it. Assumes nothing: these are definitions.
 use mathlib.Core.Path.{_≡_}
 use mathlib.Core.Bool.{Bool, true, false}
-use mathlib.Core.List.{List, [], _∷_}
-use Prim.Native.Nat.{ℕ, zero, suc, _+_, _-_, _≤_, _<_}
+use Prim.Native.Nat.{ℕ, _-_, _≤_, _<_}
 use lib.Dec.{ltb}
 use Rattle.std.specs.Options.{Cases}
 use Rattle.std.specs.declared.option.Option.{Option}
 use Rattle.std.specs.declared.option.Option.the-variants.{None, Some}
-use Rattle.pages.specs.Lists.{pick, those}
+use Rattle.pages.specs.Lists.{pick}
 use Rattle.recurrence.specs.Event.{Repeat, falls, so-often}
-use Rattle.recurrence.specs.Span.{days-from}
 use Rattle.recurrence.specs.ByRule.{fits, next-day, often}
 use Rattle.recurrence.specs.declared.rule.Answer.{Answer}
 use Rattle.recurrence.specs.declared.rule.Answer.the-variants.{NotKnown, Never, On}

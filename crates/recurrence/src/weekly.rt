@@ -2,7 +2,6 @@
 ghost use mathlib.Core.Path.{_≡_};
 ghost use Prim.Native.Nat.{_+_, _-_, _<_, _≤_};
 ghost use Rattle.std.specs.Options.{Cases};
-ghost use Rattle.dates.specs.Date.{week, weekday};
 ghost use Rattle.recurrence.specs.Event.{has};
 ghost use Rattle.recurrence.specs.Week.{days-of};
 ghost use Rattle.recurrence.specs.ByRule.{day-limit, next-weekly, often-weekly, on-before, on-from, weeks-often};

@@ -1,6 +1,4 @@
-use native.Mathlib.Omega.{arith}
 use borrow.Author.Needs.{needs}
-use Rattle.std.proofs.shelf.Ways.{tells}
 use Rattle.recurrence.specs.ByRule.{next-weekly}
 use Rattle.recurrence.proofs.weekly.next_weekly.Needs as need
 

@@ -1,6 +1,5 @@
 use native.Mathlib.Omega.{arith}
 use borrow.Author.Needs.{needs}
-use Rattle.std.proofs.shelf.Ways.{tells}
 use Rattle.recurrence.specs.Event.{has}
 use Rattle.recurrence.specs.Week.{days-of}
 use Rattle.recurrence.proofs.Nexts.{on-from-turn, on-from-end}

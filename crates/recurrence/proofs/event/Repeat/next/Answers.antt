@@ -1,8 +1,5 @@
-use mathlib.Core.Path.{_≡_}
 use borrow.Author.Needs.{needs}
 use Rattle.recurrence.specs.Value.{repeat-of}
-use Rattle.recurrence.specs.ByRule.{known, next-day}
-use Rattle.recurrence.specs.First.{answer}
 use Rattle.recurrence.specs.declared.rule.Answer.the-variants.{NotKnown, Never, On}
 use Rattle.recurrence.proofs.Nexts.{next-told, rules-right}
 use Rattle.recurrence.proofs.event.Repeat.next.Needs as need
