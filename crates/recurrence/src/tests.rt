@@ -31,6 +31,10 @@ fn repeating(kind: Kind, step: u64, first: u64, last: u64) -> Event {
     }
 }
 
+fn daily(step: u64, first: u64) -> Event {
+    repeating(Kind::Daily, step, first, LAST)
+}
+
 fn weekly(step: u64, weekdays: Weekdays, first: u64) -> Event {
     let event = repeating(Kind::Weekly, step, first, LAST);
     Event {
@@ -56,99 +60,49 @@ fn fridays(step: u64) -> Event {
     weekly(step, Weekdays::none().with(4), FRIDAY)
 }
 
-// The day of the next occurrence; none where there is none, and where it isn't known.
-fn next(event: Event, left_out: &[u64], from: u64) -> Option<u64> {
-    match event.next_occurrence(left_out, from) {
-        Answer::On(day) => Some(day),
+// Asked of a day: the next occurrence from it on, on how many days it has fallen by then, and whether it occurs on it.
+fn tells(event: Event, left_out: &[u64], day: u64, next: Option<u64>, count: Option<u64>) -> Result<(), Fail> {
+    let told = match event.next_occurrence(left_out, day) {
+        Answer::On(next) => Some(next),
         Answer::Never | Answer::NotKnown => None,
-    }
+    };
+    let today = match next {
+        Some(next) => next == day,
+        None => false,
+    };
+    let occurs = match count {
+        Some(_) => Some(today),
+        None => None,
+    };
+    check_eq(told, next)?;
+    check_eq(event.repeat.count(event.first, day), count)?;
+    check_eq(event.occurs(left_out, day), occurs)
 }
 
 #[test]
-fn weeks_count_from_the_monday_and_not_from_the_first_day() -> Result<(), Fail> {
-    // Monday of the week after is five days on, less than a week, and in none of its weeks.
-    let event = weekly(2, Weekdays::none().with(0).with(2), WEDNESDAY);
-    check_eq(next(event, &[], WEDNESDAY), Some(WEDNESDAY))?;
-    check_eq(next(event, &[], WEDNESDAY + 1), Some(WEDNESDAY + 12))?;
-    check_eq(event.repeat.count(WEDNESDAY, WEDNESDAY + 14), Some(3))
+fn by_weeks() -> Result<(), Fail> {
+    let two = weekly(2, Weekdays::none().with(0).with(2), WEDNESDAY);
+    tells(two, &[], WEDNESDAY + 5, Some(WEDNESDAY + 12), Some(1)).note("weeks from the Monday, not the first day")?;
+    tells(fridays(2), &[], IN_2199, Some(72_687), Some(5191)).note("every second Friday over years")?;
+    tells(fridays(1000), &[], FRIDAY + 1, Some(FRIDAY + 7000), Some(1)).note("every thousandth week")?;
+    let none = weekly(1, Weekdays::none(), WEDNESDAY);
+    tells(none, &[], IN_2199, None, Some(0)).note("no weekdays")?;
+    let mondays = weekly(1, Weekdays::none().with(0), WEDNESDAY);
+    tells(mondays, &[], WEDNESDAY, Some(WEDNESDAY + 5), Some(0)).note("the first day is none of its weekdays")
 }
 
 #[test]
-fn left_out_days_count_as_times() -> Result<(), Fail> {
-    let event = with_times(repeating(Kind::Daily, 1, 20, LAST), 3);
-    check_eq(next(event, &[21], 21), Some(22))?;
-    check_eq(event.occurs(&[21], 21), Some(false))?;
-    check_eq(next(event, &[21], 23), None)
-}
-
-#[test]
-fn every_second_friday_over_years() -> Result<(), Fail> {
-    let event = fridays(2);
-    let mut expected = FRIDAY;
-    let mut day = 0;
-    for _ in 0..520 {
-        check_eq(next(event, &[], day), Some(expected))?;
-        day = expected.saturating_add(1);
-        expected = expected.saturating_add(14);
-    }
-    check_eq(next(event, &[], IN_2199), Some(72_687))
-}
-
-#[test]
-fn since_2000_asked_in_2199() -> Result<(), Fail> {
-    let event = repeating(Kind::Daily, 3, 12, LAST);
-    check_eq(next(event, &[], IN_2199), Some(IN_2199))?;
-    check_eq(event.repeat.count(12, IN_2199), Some(24_225))
-}
-
-#[test]
-fn every_thousandth_week() -> Result<(), Fail> {
-    check_eq(next(fridays(1000), &[], FRIDAY + 1), Some(FRIDAY + 7000))?;
-    check_eq(fridays(1000).repeat.count(FRIDAY, 72_687), Some(11))
-}
-
-#[test]
-fn last_day_before_the_first() -> Result<(), Fail> {
-    let event = repeating(Kind::Daily, 1, 100, 50);
-    check_eq(next(event, &[], 40), None)?;
-    check_eq(event.occurs(&[], 100), Some(false))?;
-    check_eq(event.repeat.count(100, 200), Some(0))
-}
-
-#[test]
-fn first_day_on_none_of_its_weekdays() -> Result<(), Fail> {
-    let event = weekly(1, Weekdays::none().with(0), WEDNESDAY);
-    check_eq(event.occurs(&[], WEDNESDAY), Some(false))?;
-    check_eq(next(event, &[], WEDNESDAY), Some(WEDNESDAY + 5))
-}
-
-#[test]
-fn no_weekdays() -> Result<(), Fail> {
-    let event = weekly(1, Weekdays::none(), WEDNESDAY);
-    check_eq(next(event, &[], 0), None)?;
-    check_eq(event.repeat.count(WEDNESDAY, IN_2199), Some(0))
-}
-
-#[test]
-fn ten_thousand_times() -> Result<(), Fail> {
-    let event = with_times(repeating(Kind::Daily, 1, 11, LAST), 10_000);
-    check_eq(event.occurs(&[], 10_010), Some(true))?;
-    check_eq(event.occurs(&[], 10_011), Some(false))?;
-    check_eq(next(event, &[], 10_011), None)
-}
-
-#[test]
-fn other_kinds_are_not_known() -> Result<(), Fail> {
-    check_eq(repeating(Kind::Yearly, 1, 11, LAST).occurs(&[], 11), None)?;
-    check_eq(repeating(Kind::Daily, 0, 11, LAST).occurs(&[], 11), None)
-}
-
-// What is seen by looking at every day.
-#[derive(Clone, Copy)]
-struct Seen {
-    count: u64,
-    occurs: bool,
-    next: Option<u64>,
+fn by_days() -> Result<(), Fail> {
+    let thrice = with_times(daily(1, 20), 3);
+    tells(thrice, &[21], 21, Some(22), Some(2)).note("a left-out day")?;
+    tells(thrice, &[21], 23, None, Some(4)).note("left-out days count as times")?;
+    tells(daily(3, 12), &[], IN_2199, Some(IN_2199), Some(24_225)).note("since 2000, asked in 2199")?;
+    tells(repeating(Kind::Daily, 1, 100, 50), &[], 100, None, Some(0)).note("the last day before the first")?;
+    let many = with_times(daily(1, 11), 10_000);
+    tells(many, &[], 10_010, Some(10_010), Some(10_000)).note("the last of 10,000 times")?;
+    tells(many, &[], 10_011, None, Some(10_001)).note("past 10,000 times")?;
+    tells(daily(0, 11), &[], 11, None, None).note("a step of 0 is not known")?;
+    tells(repeating(Kind::Yearly, 1, 11, LAST), &[], 11, None, None).note("other kinds are not known")
 }
 
 // The numbers of a well-known generator, of which the upper bits serve.
@@ -177,33 +131,25 @@ fn falls(event: Event, day: u64) -> bool {
     }
 }
 
-fn look(event: Event, left_out: [u64; 3], day: u64) -> Seen {
+// By a look at every day: the first from one on, and how often up to it.
+fn look(event: Event, left_out: [u64; 3], day: u64) -> (Option<u64>, u64) {
     let times = event.repeat.times;
-    let mut seen = Seen {
-        count: 0,
-        occurs: false,
-        next: None,
-    };
-    let mut count = 0u64;
+    let mut next = None;
+    let mut all = 0u64;
+    let mut count = 0;
     for d in event.first..200 {
         if falls(event, d) {
-            count = count.saturating_add(1);
-            let kept = (times == 0 || count <= times)
-                && d != left_out[0]
-                && d != left_out[1]
-                && d != left_out[2];
+            all = all.saturating_add(1);
             if d <= day {
-                seen.count = count;
+                count = all;
             }
-            if kept && d == day {
-                seen.occurs = true;
-            }
-            if kept && d >= day && seen.next.is_none() {
-                seen.next = Some(d);
+            let kept = (times == 0 || all <= times) && d != left_out[0] && d != left_out[1] && d != left_out[2];
+            if kept && d >= day && next.is_none() {
+                next = Some(d);
             }
         }
     }
-    seen
+    (next, count)
 }
 
 fn some_event(seed: u64) -> Event {
@@ -242,10 +188,8 @@ fn beside_a_look_at_every_day() -> Result<(), Fail> {
         let day = part(seed, 8, 120);
         let a = part(seed, 16, 60);
         let left_out = [a, a + 1 + part(seed, 24, 3), a + 4 + part(seed, 32, 60)];
-        let seen = look(event, left_out, day);
-        check_eq(event.repeat.count(event.first, day), Some(seen.count))?;
-        check_eq(event.occurs(&left_out, day), Some(seen.occurs))?;
-        check_eq(next(event, &left_out, day), seen.next)?;
+        let (next, count) = look(event, left_out, day);
+        tells(event, &left_out, day, next, Some(count))?;
     }
     Ok(())
 }
