@@ -1,12 +1,13 @@
 -- Weekdays marked one after the other, by rising number.
-use mathlib.Core.Path.{_≡_, refl, sym, ap, _∙_}
+use mathlib.Core.Path.{_≡_, refl, ap, _∙_}
 use mathlib.Core.Bool.{Bool, true, false}
 use mathlib.Core.List.{List, [], _∷_, _++_}
 use Prim.Native.Nat.{ℕ, zero, suc, _+_, _<_, _≤_}
 use native.Mathlib.Omega.{arith}
 use lib.Dec.{eqb}
 use lib.ListN.{length, getD, set}
-use Rattle.std.proofs.shelf.Tests.{ne-eqb}
+use Rattle.std.proofs.shelf.Tests.{eq-eqb, ne-eqb}
+use Rattle.recurrence.specs.Event.{has}
 use Rattle.recurrence.specs.Week.{flags, places, days-of, with-day, no-days}
 use Rattle.recurrence.specs.declared.event.Weekdays.{Weekdays}
 
@@ -57,3 +58,27 @@ places-set k (suc i) (false ∷ bs) l h =
 pub none-days : days-of no-days ≡ []
 unfolding days-of places
 none-days = refl
+
+-- a number is among the places of what is true just where that is true
+not-before : (bs : List Bool) (i j : ℕ) → j < i → has (places i bs) j ≡ false
+unfolding places
+not-before [] i j h = refl
+not-before (true ∷ bs) i j h =
+    let e : eqb j i ≡ false = ne-eqb j i (omega arith) in
+    rw (e, not-before bs (suc i) j (omega arith))
+not-before (false ∷ bs) i j h = not-before bs (suc i) j (omega arith)
+
+has-places : (bs : List Bool) (i k : ℕ) → has (places i bs) (i + k) ≡ getD bs k false
+unfolding places
+has-places [] i k = refl
+has-places (true ∷ bs) i zero = let e : eqb (i + 0) i ≡ true = eq-eqb (i + 0) i (omega arith) in rw e
+has-places (false ∷ bs) i zero = not-before bs (suc i) (i + 0) (omega arith)
+has-places (true ∷ bs) i (suc k) =
+    let e : eqb (i + suc k) i ≡ false = ne-eqb (i + suc k) i (omega arith) in
+    let a : i + suc k ≡ suc i + k = omega arith in
+    rw e (ap (has (places (suc i) bs)) a ∙ has-places bs (suc i) k)
+has-places (false ∷ bs) i (suc k) = let a : i + suc k ≡ suc i + k = omega arith in ap (has (places (suc i) bs)) a ∙ has-places bs (suc i) k
+
+pub has-day : (w : Weekdays) (k : ℕ) → has (days-of w) k ≡ getD (flags w) k false
+unfolding days-of
+has-day w k = let a : k ≡ 0 + k = omega arith in ap (has (places 0 (flags w))) a ∙ has-places (flags w) 0 k
