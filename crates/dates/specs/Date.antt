@@ -33,8 +33,7 @@ date-of d =
     record {
       year = year-in-era e + 400 * (since d / 146097) + pick (ltb m 10) 0 1;
       month = pick (ltb m 10) (m + 3) (m - 9);
-      day = suc (y - (153 * m + 2) / 5);
-    }
+      day = suc (y - (153 * m + 2) / 5) }
 
 -- the day of a date; months 1 to 12, years from 2000
 unfoldable pub day-of : ℕ → ℕ → ℕ → ℕ

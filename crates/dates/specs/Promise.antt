@@ -16,7 +16,7 @@ Dates-right =
     (day-of (date-of d .year) (date-of d .month) (date-of d .day) ≡ d)
     × (1 ≤ date-of d .month) × (date-of d .month ≤ 12) × (1 ≤ date-of d .day) × (date-of d .day ≤ 31)
     × (((date-of (suc d) .year ≡ date-of d .year) × (date-of (suc d) .month ≡ date-of d .month) × (date-of (suc d) .day ≡ suc (date-of d .day)))
-    ⊎ (date-of (suc d) .day ≡ 1))
+        ⊎ (date-of (suc d) .day ≡ 1))
 
 unfoldable pub Dates-back : Type 0
 Dates-back =
