@@ -7,16 +7,12 @@ use Prim.Native.Nat.{ℕ, zero, suc, _+_, _≤_, _<_}
 use native.Mathlib.Omega.{arith}
 use lib.Dec.{leb}
 use lib.ListN.{length, getD}
-use Rattle.std.specs.Places.{Located}
-use Rattle.std.specs.shelf.Sorted.{unsigned}
-use Rattle.std.specs.declared.result.Result.the-variants.{Ok, Err}
 use Rattle.std.proofs.shelf.Ways.{tells}
-use Rattle.std.proofs.shelf.Sorted.{searched}
 use Rattle.std.proofs.shelf.Tests.{cases-lt, cases-eq, eq-eqb, ne-eqb}
 use Rattle.pages.specs.Lists.{those}
 use Rattle.recurrence.specs.Event.{has, rising}
 
-has-at : (ks : List ℕ) (i x : ℕ) → i < length ks → getD ks i 0 ≡ x → has ks x ≡ true
+pub has-at : (ks : List ℕ) (i x : ℕ) → i < length ks → getD ks i 0 ≡ x → has ks x ≡ true
 has-at [] i x l e = absurd (omega arith)
 has-at (k ∷ ks) zero x l e = rw (eq-eqb x k (sym e))
 has-at (k ∷ ks) (suc i) x l e = let h = has-at ks i x (omega arith) e in grind (arith, tells)
@@ -47,19 +43,20 @@ rises (k ∷ ks) h zero (suc j) l m = rises-head k ks j h (omega arith)
 rises (k ∷ ks) h (suc i) zero l m = absurd (omega arith)
 rises (k ∷ ks) h (suc i) (suc j) l m = rises ks (rises-tail k ks h) i j (omega arith) (omega arith)
 
--- what a binary search finds is there
-pub found-there : (ks : List ℕ) (x i : ℕ) → i < length ks → Located (λ y. unsigned .cmp y x) ks (Ok i) → has ks x ≡ true
-found-there ks x i l h =
-    has-at ks i x l (searched (getD ks i 0 ∷ []) x (Ok 0) (λ d. h 0) (λ a b m n. alone a b (omega arith) (omega arith)) .1)
-  where
-    alone : (a b : ℕ) → a ≡ 0 → b ≡ 0 → getD (getD ks i 0 ∷ []) a 0 ≤ getD (getD ks i 0 ∷ []) b 0
-    alone a b p q = rw (p, q) (omega arith)
+-- where a day can still be in a rising list: what is before low is earlier, and what is from high on is later
+abbrev pub Between : List ℕ → ℕ → ℕ → ℕ → Type 0
+Between ks x low high =
+    rising ks ≡ true → ((i : ℕ) → i < low → getD ks i 0 < x) × ((i : ℕ) → high ≤ i → i < length ks → x < getD ks i 0)
 
--- and what it doesn't find in a rising list is not
-pub not-there : (ks : List ℕ) (x i : ℕ) → Located (λ y. unsigned .cmp y x) ks (Err i) → rising ks ≡ true → has ks x ≡ false
-not-there ks x i h r =
-    let s = searched ks x (Err i) h (rises ks r) in
-    has-none ks x (λ j l e. elim (cases-lt j i) [ inl k ↦ absurd (omega (arith, s .1 j k)) | inr k ↦ absurd (omega (arith, s .2 j k l)) ])
+pub between-above : (ks : List ℕ) (x low high i : ℕ) → Between ks x low high → i < length ks → getD ks i 0 < x → Between ks x (i + 1) high
+between-above ks x low high i h l m r = ((λ j k. omega (arith, rises ks r j i (omega arith) l)), h r .1)
+
+pub between-below : (ks : List ℕ) (x low high i : ℕ) → Between ks x low high → x < getD ks i 0 → Between ks x low i
+between-below ks x low high i h m r = (h r .0, λ j k l. omega (arith, rises ks r i j k l))
+
+pub between-none : (ks : List ℕ) (x low high : ℕ) → Between ks x low high → high ≤ low → rising ks ≡ true → has ks x ≡ false
+between-none ks x low high h m r =
+    has-none ks x (λ i l e. elim (cases-lt i low) [ inl k ↦ absurd (omega (arith, h r .0 i k)) | inr k ↦ absurd (omega (arith, h r .1 i (omega arith) l)) ])
 
 -- how many of them come on a day or after it
 abbrev pub left-from : List ℕ → ℕ → ℕ

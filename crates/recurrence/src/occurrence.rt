@@ -75,13 +75,24 @@ impl Event {
     }
 }
 
-// What it finds is there; in a rising list it also misses nothing.
+// By halves. What it finds is there; in a rising list it also misses nothing.
 fn is_left_out(left_out: &[u64], day: u64) -> bool
     ensures there { λ r. ⌜ (T r → has (now («left_out» .entry)) day ≡ true) ⌝ }
     ensures exact { λ r. ⌜ (rising (now («left_out» .entry)) ≡ true → r ≡ has (now («left_out» .entry)) day) ⌝ }
 {
-    match left_out.binary_search(&day) {
-        Ok(_) => true,
-        Err(_) => false,
+    let mut low = 0;
+    let mut high = left_out.len();
+    while low < high {
+        let middle = low + (high - low) / 2;
+        let found = left_out[middle];
+        if found == day {
+            return true;
+        }
+        if found < day {
+            low = middle + 1;
+        } else {
+            high = middle;
+        }
     }
+    false
 }

@@ -61,7 +61,13 @@ fn fridays(step: u64) -> Event {
 }
 
 // Asked of a day: the next occurrence from it on, on how many days it has fallen by then, and whether it occurs on it.
-fn tells(event: Event, left_out: &[u64], day: u64, next: Option<u64>, count: Option<u64>) -> Result<(), Fail> {
+fn tells(
+    event: Event,
+    left_out: &[u64],
+    day: u64,
+    next: Option<u64>,
+    count: Option<u64>,
+) -> Result<(), Fail> {
     let told = match event.next_occurrence(left_out, day) {
         Answer::On(next) => Some(next),
         Answer::Never | Answer::NotKnown => None,
@@ -82,13 +88,21 @@ fn tells(event: Event, left_out: &[u64], day: u64, next: Option<u64>, count: Opt
 #[test]
 fn by_weeks() -> Result<(), Fail> {
     let two = weekly(2, Weekdays::none().with(0).with(2), WEDNESDAY);
-    tells(two, &[], WEDNESDAY + 5, Some(WEDNESDAY + 12), Some(1)).note("weeks from the Monday, not the first day")?;
-    tells(fridays(2), &[], IN_2199, Some(72_687), Some(5191)).note("every second Friday over years")?;
-    tells(fridays(1000), &[], FRIDAY + 1, Some(FRIDAY + 7000), Some(1)).note("every thousandth week")?;
+    tells(two, &[], WEDNESDAY + 5, Some(WEDNESDAY + 12), Some(1)).note(
+        "weeks from the Monday, not the first day",
+    )?;
+    tells(fridays(2), &[], IN_2199, Some(72_687), Some(5191)).note(
+        "every second Friday over years",
+    )?;
+    tells(fridays(1000), &[], FRIDAY + 1, Some(FRIDAY + 7000), Some(1)).note(
+        "every thousandth week",
+    )?;
     let none = weekly(1, Weekdays::none(), WEDNESDAY);
     tells(none, &[], IN_2199, None, Some(0)).note("no weekdays")?;
     let mondays = weekly(1, Weekdays::none().with(0), WEDNESDAY);
-    tells(mondays, &[], WEDNESDAY, Some(WEDNESDAY + 5), Some(0)).note("the first day is none of its weekdays")
+    tells(mondays, &[], WEDNESDAY, Some(WEDNESDAY + 5), Some(0)).note(
+        "the first day is none of its weekdays",
+    )
 }
 
 #[test]
@@ -96,13 +110,19 @@ fn by_days() -> Result<(), Fail> {
     let thrice = with_times(daily(1, 20), 3);
     tells(thrice, &[21], 21, Some(22), Some(2)).note("a left-out day")?;
     tells(thrice, &[21], 23, None, Some(4)).note("left-out days count as times")?;
-    tells(daily(3, 12), &[], IN_2199, Some(IN_2199), Some(24_225)).note("since 2000, asked in 2199")?;
-    tells(repeating(Kind::Daily, 1, 100, 50), &[], 100, None, Some(0)).note("the last day before the first")?;
+    tells(daily(3, 12), &[], IN_2199, Some(IN_2199), Some(24_225)).note(
+        "since 2000, asked in 2199",
+    )?;
+    tells(repeating(Kind::Daily, 1, 100, 50), &[], 100, None, Some(0)).note(
+        "the last day before the first",
+    )?;
     let many = with_times(daily(1, 11), 10_000);
     tells(many, &[], 10_010, Some(10_010), Some(10_000)).note("the last of 10,000 times")?;
     tells(many, &[], 10_011, None, Some(10_001)).note("past 10,000 times")?;
     tells(daily(0, 11), &[], 11, None, None).note("a step of 0 is not known")?;
-    tells(repeating(Kind::Yearly, 1, 11, LAST), &[], 11, None, None).note("other kinds are not known")
+    tells(repeating(Kind::Yearly, 1, 11, LAST), &[], 11, None, None).note(
+        "other kinds are not known",
+    )
 }
 
 // The numbers of a well-known generator, of which the upper bits serve.
@@ -143,7 +163,10 @@ fn look(event: Event, left_out: [u64; 3], day: u64) -> (Option<u64>, u64) {
             if d <= day {
                 count = all;
             }
-            let kept = (times == 0 || all <= times) && d != left_out[0] && d != left_out[1] && d != left_out[2];
+            let kept = (times == 0 || all <= times)
+                && d != left_out[0]
+                && d != left_out[1]
+                && d != left_out[2];
             if kept && d >= day && next.is_none() {
                 next = Some(d);
             }
