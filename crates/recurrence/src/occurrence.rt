@@ -1,6 +1,6 @@
 // On which days an event occurs: those on which it falls, the earliest so many where it has a number of times, without those left out.
 // The days left out are lent, rising. No loop goes over days: the one here passes over days that are left out,
-// each once, so it takes no more turns than there are such days, and each looks one up by halves.
+// each once, so it takes at most one turn more than there are such days, and each looks one up by halves.
 ghost use mathlib.Core.Path.{_≡_};
 ghost use mathlib.Core.Bool.{true};
 ghost use mathlib.Core.List.{[]};
