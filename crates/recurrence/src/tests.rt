@@ -86,43 +86,61 @@ fn tells(
 }
 
 #[test]
-fn by_weeks() -> Result<(), Fail> {
+fn weeks_count_from_the_monday_and_not_the_first_day() -> Result<(), Fail> {
     let two = weekly(2, Weekdays::none().with(0).with(2), WEDNESDAY);
-    tells(two, &[], WEDNESDAY + 5, Some(WEDNESDAY + 12), Some(1)).note(
-        "weeks from the Monday, not the first day",
-    )?;
-    tells(fridays(2), &[], IN_2199, Some(72_687), Some(5191)).note(
-        "every second Friday over years",
-    )?;
-    tells(fridays(1000), &[], FRIDAY + 1, Some(FRIDAY + 7000), Some(1)).note(
-        "every thousandth week",
-    )?;
-    let none = weekly(1, Weekdays::none(), WEDNESDAY);
-    tells(none, &[], IN_2199, None, Some(0)).note("no weekdays")?;
-    let mondays = weekly(1, Weekdays::none().with(0), WEDNESDAY);
-    tells(mondays, &[], WEDNESDAY, Some(WEDNESDAY + 5), Some(0)).note(
-        "the first day is none of its weekdays",
-    )
+    tells(two, &[], WEDNESDAY + 5, Some(WEDNESDAY + 12), Some(1))
 }
 
 #[test]
-fn by_days() -> Result<(), Fail> {
+fn left_out_days_count_as_times() -> Result<(), Fail> {
     let thrice = with_times(daily(1, 20), 3);
-    tells(thrice, &[21], 21, Some(22), Some(2)).note("a left-out day")?;
-    tells(thrice, &[21], 23, None, Some(4)).note("left-out days count as times")?;
-    tells(daily(3, 12), &[], IN_2199, Some(IN_2199), Some(24_225)).note(
-        "since 2000, asked in 2199",
-    )?;
-    tells(repeating(Kind::Daily, 1, 100, 50), &[], 100, None, Some(0)).note(
-        "the last day before the first",
-    )?;
+    tells(thrice, &[21], 21, Some(22), Some(2))?;
+    tells(thrice, &[21], 23, None, Some(4))
+}
+
+#[test]
+fn every_second_friday_over_years() -> Result<(), Fail> {
+    tells(fridays(2), &[], IN_2199, Some(72_687), Some(5191))
+}
+
+#[test]
+fn since_2000_asked_in_2199() -> Result<(), Fail> {
+    tells(daily(3, 12), &[], IN_2199, Some(IN_2199), Some(24_225))
+}
+
+#[test]
+fn every_thousandth_week() -> Result<(), Fail> {
+    tells(fridays(1000), &[], FRIDAY + 1, Some(FRIDAY + 7000), Some(1))
+}
+
+#[test]
+fn last_day_before_the_first() -> Result<(), Fail> {
+    tells(repeating(Kind::Daily, 1, 100, 50), &[], 100, None, Some(0))
+}
+
+#[test]
+fn empty_weekdays() -> Result<(), Fail> {
+    let none = weekly(1, Weekdays::none(), WEDNESDAY);
+    tells(none, &[], IN_2199, None, Some(0))
+}
+
+#[test]
+fn first_day_on_none_of_its_weekdays() -> Result<(), Fail> {
+    let mondays = weekly(1, Weekdays::none().with(0), WEDNESDAY);
+    tells(mondays, &[], WEDNESDAY, Some(WEDNESDAY + 5), Some(0))
+}
+
+#[test]
+fn ten_thousand_times() -> Result<(), Fail> {
     let many = with_times(daily(1, 11), 10_000);
-    tells(many, &[], 10_010, Some(10_010), Some(10_000)).note("the last of 10,000 times")?;
-    tells(many, &[], 10_011, None, Some(10_001)).note("past 10,000 times")?;
-    tells(daily(0, 11), &[], 11, None, None).note("a step of 0 is not known")?;
-    tells(repeating(Kind::Yearly, 1, 11, LAST), &[], 11, None, None).note(
-        "other kinds are not known",
-    )
+    tells(many, &[], 10_010, Some(10_010), Some(10_000))?;
+    tells(many, &[], 10_011, None, Some(10_001))
+}
+
+#[test]
+fn other_kinds_and_a_step_of_0_are_not_known() -> Result<(), Fail> {
+    tells(daily(0, 11), &[], 11, None, None)?;
+    tells(repeating(Kind::Yearly, 1, 11, LAST), &[], 11, None, None)
 }
 
 // The numbers of a well-known generator, of which the upper bits serve.
