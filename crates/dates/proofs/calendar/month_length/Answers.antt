@@ -15,6 +15,6 @@ pub returns-in-4 : goal.returns-in-4
 unfolding month_days
 returns-in-4 c = grind (arith, nat_tests)
 
-pub returns-in-default : goal.returns-in-default
+pub returns-in_default : goal.returns-in_default
 unfolding month_days
-returns-in-default c = grind (arith, nat_tests)
+returns-in_default c = grind (arith, nat_tests)

@@ -7,4 +7,4 @@ pub returns : goal.returns
 unfolding head_in
 returns c =
     let m = c.args.memory.now in
-    (lent_head m c.put-addresses.new.head c.requires.0 c.put-addresses.auto.head).0 ∙ ap (λ ws. with_head ws m) c.put-addresses.ensures
+    (lent_head m c.put_addresses.new.head c.requires.0 c.put_addresses.auto.head).0 ∙ ap (λ ws. with_head ws m) c.put_addresses.ensures

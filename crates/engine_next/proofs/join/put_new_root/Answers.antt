@@ -7,4 +7,4 @@ pub returns : goal.returns
 returns c =
     let m = c.args.memory.now in
     let l = length_root m c.requires.0 in
-    root_put _ _ (root_in m) _ _ _ m _ _ (omega arith) c.root.ensures c.cursor-in-cursor.ensures c.put-root.ensures c.put-batch.ensures
+    root_put _ _ (root_in m) _ _ _ m _ _ (omega arith) c.root.ensures c.cursor_in-cursor.ensures c.put_root.ensures c.put_batch.ensures

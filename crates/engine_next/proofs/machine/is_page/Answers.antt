@@ -4,4 +4,4 @@ use Rattle.pages.proofs.ByteLists.{bytes_from}
 use Rattle.engine.proofs.machine.is_page.Goals as goal
 
 pub returns : goal.returns
-returns c = sym (and_from _ _ (eq-eqb _ _ c.if-bytes-ne512.false) (bytes_from c.args.bytes.now (λ i. omega (arith, c.type-inv.bytes i))))
+returns c = sym (and_from _ _ (eq-eqb _ _ c.if-bytes-ne512.false) (bytes_from c.args.bytes.now (λ i. omega (arith, c.type_inv.bytes i))))

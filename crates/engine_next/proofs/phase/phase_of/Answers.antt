@@ -3,4 +3,4 @@ use Rattle.engine.proofs.phase.phase_of.Goals as goal
 
 pub returns : goal.returns
 unfolding phase_of
-returns c = c.phase-at.ensures
+returns c = c.phase_at.ensures

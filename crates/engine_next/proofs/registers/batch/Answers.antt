@@ -4,4 +4,4 @@ use Rattle.engine.proofs.registers.batch.Goals as goal
 
 pub returns : goal.returns
 unfolding batch_in
-returns c = let e : 4416 + 512 * c.args.i + 512 - (4416 + 512 * c.args.i) ≡ 512 = omega arith in rw e at c.put-low-bytes.ensures
+returns c = let e : 4416 + 512 * c.args.i + 512 - (4416 + 512 * c.args.i) ≡ 512 = omega arith in rw e at c.put_low_bytes.ensures

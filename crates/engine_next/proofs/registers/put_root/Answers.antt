@@ -5,4 +5,4 @@ use Rattle.engine.proofs.registers.put_root.Goals as goal
 
 pub returns : goal.returns
 unfolding with_root
-returns c = placed_over 3392 512 c.args.page.now c.args.memory.now c.put-bytes.new.to (omega arith) (omega arith) c.put-bytes.ensures
+returns c = placed_over 3392 512 c.args.page.now c.args.memory.now c.put_bytes.new.to (omega arith) (omega arith) c.put_bytes.ensures

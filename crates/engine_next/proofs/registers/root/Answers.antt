@@ -3,4 +3,4 @@ use Rattle.engine.proofs.registers.root.Goals as goal
 
 pub returns : goal.returns
 unfolding root_in
-returns c = c.put-low-bytes.ensures
+returns c = c.put_low_bytes.ensures

@@ -67,7 +67,7 @@ pub loop-i-preserved : goal.loop-i-preserved
 loop-i-preserved c =
     let t = c.args.text.now in
     let i = c.loop-i.i in
-    let byte = c.in-ok-push.ensures.items in (
+    let byte = c.in_ok-push.ensures.items in (
       omega arith,
       ap (λ x. read_onto x (drop (i + 2) t)) (byte ∙ ap (λ x. vec_items c.loop-i.bytes ++ x ∷ []) (λ j. 16 * c.value-high.ensures.is j + c.value-low.ensures.is j))
           ∙ sym (read_good (vec_items c.loop-i.bytes) t i (omega arith) (omega (arith, c.value-high.ensures.is)) (omega (arith, c.value-low.ensures.is))) ∙ c.loop-i.invariant.1,

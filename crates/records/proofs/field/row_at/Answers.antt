@@ -2,9 +2,9 @@ use Rattle.std.proofs.Common.{rules}
 use Rattle.records.specs.Reader.{row}
 use Rattle.records.proofs.field.row_at.Goals as goal
 
-pub returns-in-default : goal.returns-in-default
+pub returns-in_default : goal.returns-in_default
 unfolding row
-returns-in-default c = search rules
+returns-in_default c = search rules
 
 pub returns-then-start-bytes : goal.returns-then-start-bytes
 unfolding row

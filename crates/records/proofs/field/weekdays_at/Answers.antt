@@ -6,9 +6,9 @@ use Rattle.records.proofs.field.weekdays_at.Goals as goal
 pub marked-requires : goal.marked-requires
 marked-requires c = row_inside 0 7 0 6 c.args.bytes.now c.args.at (c.in-Some.part, c.in-Some.next) (sym c.in-Some.ensures)
 
-pub returns-in-default : goal.returns-in-default
+pub returns-in_default : goal.returns-in_default
 unfolding weekdays
-returns-in-default c = search rules
+returns-in_default c = search rules
 
 pub returns : goal.returns
 unfolding weekdays

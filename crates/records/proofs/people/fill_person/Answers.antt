@@ -4,5 +4,5 @@ use Rattle.records.proofs.people.fill_person.Goals as goal
 
 pub returns : goal.returns
 returns c =
-    person_filled c.args.name.now _ _ _ _ c.put-bytes.new.out (omega arith) c.copy-from-slice.ensures.after
-    c.put-byte.ensures c.put-wide.ensures c.put-four.ensures c.put-bytes.ensures
+    person_filled c.args.name.now _ _ _ _ c.put_bytes.new.out (omega arith) c.copy_from_slice.ensures.after
+    c.put_byte.ensures c.put_wide.ensures c.put_four.ensures c.put_bytes.ensures

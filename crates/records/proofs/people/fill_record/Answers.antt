@@ -4,4 +4,4 @@ use Rattle.records.proofs.people.fill_record.Goals as goal
 
 pub returns : goal.returns
 returns c =
-    record_filled c.args.row.now _ _ c.args.next c.args.head (omega arith) c.put-wide.ensures c.put-four.ensures (omega (arith, c.type-inv.row 0))
+    record_filled c.args.row.now _ _ c.args.next c.args.head (omega arith) c.put_wide.ensures c.put_four.ensures (omega (arith, c.type_inv.row 0))

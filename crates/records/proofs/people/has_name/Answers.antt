@@ -13,12 +13,12 @@ loop-a-init c =
 
 pub loop-a-preserved : goal.loop-a-preserved
 loop-a-preserved c =
-    let e = named_part c.args.page.now c.args.name.now c.loop-a.a _ c.is-named.ensures ∙ c.if-is-named.false in
+    let e = named_part c.args.page.now c.args.name.now c.loop-a.a _ c.is_named.ensures ∙ c.if-is_named.false in
     sym (any_passed _ c.loop-a.a c.args.count (omega arith) e) ∙ c.loop-a.invariant
 
-pub returns-then-is-named : goal.returns-then-is-named
-returns-then-is-named c =
-    let e = named_part c.args.page.now c.args.name.now c.loop-a.a _ c.is-named.ensures ∙ c.if-is-named.true in
+pub returns-then-is_named : goal.returns-then-is_named
+returns-then-is_named c =
+    let e = named_part c.args.page.now c.args.name.now c.loop-a.a _ c.is_named.ensures ∙ c.if-is_named.true in
     sym (any_found _ c.loop-a.a c.args.count (omega arith) e) ∙ c.loop-a.invariant
 
 pub returns : goal.returns

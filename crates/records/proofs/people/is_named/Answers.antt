@@ -11,6 +11,6 @@ returns c =
     let r = c.args.from.now in
     let m = c.min-long.result in
     let e : 13 + m - 13 ≡ m = omega arith in
-    let l : m ≡ min (at 0 1 r) (length r - 13) = c.min-long.ensures ∙ ap (λ n. min n (length r - 13)) c.number-at-long.ensures in
+    let l : m ≡ min (at 0 1 r) (length r - 13) = c.min-long.ensures ∙ ap (λ n. min n (length r - 13)) c.number_at-long.ensures in
     let q = same_decided _ _ _ (slice_eq-Decides Decides-eqb _ _ _ c.eq.ensures) in
     rw e at q ∙ ap (λ w. same w c.args.name.now) (name_cut r m l)

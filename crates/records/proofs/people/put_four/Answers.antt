@@ -4,4 +4,4 @@ use Rattle.records.proofs.people.put_four.Goals as goal
 
 pub returns : goal.returns
 unfolding in_bytes
-returns c = c.put-bytes.ensures ∙ ap (λ w. placed c.args.start (take 4 (drop 4 w)) c.args.out.now) c.eight-bytes-bytes.ensures
+returns c = c.put_bytes.ensures ∙ ap (λ w. placed c.args.start (take 4 (drop 4 w)) c.args.out.now) c.eight_bytes-bytes.ensures

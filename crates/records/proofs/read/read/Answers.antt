@@ -11,6 +11,6 @@ returns-then-bytes-eq0 c =
 
 pub returns : goal.returns
 returns c =
-    let b = bytes_from c.args.bytes.now (λ i. omega (arith, c.type-inv.bytes i)) in
-    let e : found c.args.bytes.now ≡ c.by-kind.result = found_some c.args.bytes.now (omega arith) b ∙ sym c.by-kind.ensures in
+    let b = bytes_from c.args.bytes.now (λ i. omega (arith, c.type_inv.bytes i)) in
+    let e : found c.args.bytes.now ≡ c.by_kind.result = found_some c.args.bytes.now (omega arith) b ∙ sym c.by_kind.ensures in
     record { value = sym e; meaning = reads _ _ e; once = spelled_once }

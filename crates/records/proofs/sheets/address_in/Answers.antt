@@ -3,4 +3,4 @@ use Rattle.records.proofs.sheets.address_in.Goals as goal
 
 pub returns : goal.returns
 unfolding at
-returns c = c.number-at.ensures
+returns c = c.number_at.ensures

@@ -7,4 +7,4 @@ pub returns : goal.returns
 returns c =
     let days = c.args.days.now in
     let z : c.fill.new.self ≡ replicate {A = ℕ} 3450 0 = c.fill.ensures.after (λ y e. e) ∙ ap (λ n. replicate {A = ℕ} n 0) c.requires.0 in
-    both_padded 3450 c.args.title.now (threes days) _ _ _ z c.put-bytes.ensures c.put-threes.ensures (omega (arith, length_threes days))
+    both_padded 3450 c.args.title.now (threes days) _ _ _ z c.put_bytes.ensures c.put_threes.ensures (omega (arith, length_threes days))

@@ -3,13 +3,13 @@ use Rattle.pages.specs.Bytes.{placed}
 use Rattle.records.proofs.SheetBytes.{every_at, layout_all, layout_more, one_more, widths_more}
 use Rattle.records.proofs.sheets.put_fields.Goals as goal
 
-pub put-number-requires : goal.put-number-requires
-put-number-requires c =
+pub put_number-requires : goal.put_number-requires
+put_number-requires c =
     let ws = c.args.widths.now in
     (omega (arith, widths_more ws c.loop-i.i (omega arith), c.loop-i.invariant.1), every_at ws c.loop-i.i c.requires.1 (omega arith))
 
-pub overflow-add-start : goal.overflow-add-start
-overflow-add-start c = omega (arith, widths_more c.args.widths.now c.loop-i.i (omega arith), c.loop-i.invariant.1)
+pub overflow_add-start : goal.overflow_add-start
+overflow_add-start c = omega (arith, widths_more c.args.widths.now c.loop-i.i (omega arith), c.loop-i.invariant.1)
 
 pub loop-i-preserved : goal.loop-i-preserved
 loop-i-preserved c =
@@ -18,7 +18,7 @@ loop-i-preserved c =
     let row = c.loop-i.row in
     let ws = c.args.widths.now in
     let vs = c.args.values.now in (
-      one_more k (k + get_or ws i 0) (get_or ws i 0) (get_or vs i 0) _ row _ (omega (arith, c.loop-i.invariant.1)) c.put-number.ensures refl
+      one_more k (k + get_or ws i 0) (get_or ws i 0) (get_or vs i 0) _ row _ (omega (arith, c.loop-i.invariant.1)) c.put_number.ensures refl
           ∙ ap (λ v. placed k v row) (sym (layout_more ws vs i (omega arith) (omega arith))) ∙ c.loop-i.invariant.0,
       omega (arith, widths_more ws i (omega arith), c.loop-i.invariant.1),
     )

@@ -24,8 +24,8 @@ returns c =
     let lf : length (fields fs []) ≡ 40 = length_fields fs [] in
     let lm = length_fours 22 more [] in
     let lb : length (take 384 body) ≡ 384 = length-take-le 384 body (omega arith) in
-    let laid = ap (layout first_widths) c.first-values-values.ensures ∙ first_laid c.args.link c.args.number e t d in
-    let w0 : Wrote 0 (fields fs []) page c.put-fields.new.row 40 = record { row = c.put-fields.ensures ∙ ap (λ f. placed 0 (fields f []) page) laid; end = omega arith } in
-    let w1 = and_more w0 (fours 22 more []) c.put-fours.new.row 128 (omega arith) c.put-fours.ensures (omega arith) in
-    let w2 = and_more w1 (take 384 body) c.put-bytes.new.out 512 (omega arith) c.put-bytes.ensures (omega arith) in
+    let laid = ap (layout first_widths) c.first_values-values.ensures ∙ first_laid c.args.link c.args.number e t d in
+    let w0 : Wrote 0 (fields fs []) page c.put_fields.new.row 40 = record { row = c.put_fields.ensures ∙ ap (λ f. placed 0 (fields f []) page) laid; end = omega arith } in
+    let w1 = and_more w0 (fours 22 more []) c.put_fours.new.row 128 (omega arith) c.put_fours.ensures (omega arith) in
+    let w2 = and_more w1 (take 384 body) c.put_bytes.new.out 512 (omega arith) c.put_bytes.ensures (omega arith) in
     w2.row ∙ placed_whole _ page (omega (arith, w2.end)) ∙ joined_parts fs more (take 384 body)

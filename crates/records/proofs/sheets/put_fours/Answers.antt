@@ -9,7 +9,7 @@ loop-i-preserved c =
     let k = c.args.start + 4 * i in
     let row = c.loop-i.row in
     let more = c.args.more.now in
-    let e : c.put-number.new.row ≡ placed k (in_bytes 4 (get_or more i 0) []) row = c.put-number.ensures ∙ ap (λ a. placed k (in_bytes 4 a []) row) c.address.ensures in
+    let e : c.put_number.new.row ≡ placed k (in_bytes 4 (get_or more i 0) []) row = c.put_number.ensures ∙ ap (λ a. placed k (in_bytes 4 a []) row) c.address.ensures in
     one_more k (c.args.start + 4 * (i + 1)) 4 (get_or more i 0) _ row _ (omega arith) e (omega arith)
     ∙ ap (λ v. placed k v row) (sym (fours_more 22 i more [] (omega arith))) ∙ c.loop-i.invariant
 

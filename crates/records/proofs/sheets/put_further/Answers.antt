@@ -11,4 +11,4 @@ returns c =
     let rest = drop k c.args.body.now in
     let e : k + 511 - k ≡ 511 = omega arith in
     let l : length (take 511 rest) ≡ 511 = length-take-le 511 rest (simp length-drop (omega arith)) in
-    marked_part page _ (take 511 rest) 2 (c.put-bytes.ensures ∙ ap (λ n. placed 1 (take n rest) (set page 0 2)) e) (omega arith)
+    marked_part page _ (take 511 rest) 2 (c.put_bytes.ensures ∙ ap (λ n. placed 1 (take n rest) (set page 0 2)) e) (omega arith)

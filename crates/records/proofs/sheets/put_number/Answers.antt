@@ -6,5 +6,5 @@ use Rattle.records.proofs.sheets.put_number.Goals as goal
 pub returns : goal.returns
 returns c =
     let w = c.args.width in
-    c.put-bytes.ensures
-    ∙ ap (λ v. placed c.args.start v c.args.row.now) (ap (λ v. take (8 - (8 - w)) (drop (8 - w) v)) c.eight-bytes-bytes.ensures ∙ low_of_eight w c.args.number c.requires.1)
+    c.put_bytes.ensures
+    ∙ ap (λ v. placed c.args.start v c.args.row.now) (ap (λ v. take (8 - (8 - w)) (drop (8 - w) v)) c.eight_bytes-bytes.ensures ∙ low_of_eight w c.args.number c.requires.1)

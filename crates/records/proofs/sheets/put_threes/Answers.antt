@@ -9,7 +9,7 @@ loop-i-preserved c =
     let k = c.args.start + 3 * i in
     let row = c.loop-i.row in
     let days = c.args.days.now in
-    one_more k (c.args.start + 3 * (i + 1)) 3 (get_or days i 0) _ row _ (omega arith) c.put-number.ensures (omega arith)
+    one_more k (c.args.start + 3 * (i + 1)) 3 (get_or days i 0) _ row _ (omega arith) c.put_number.ensures (omega arith)
     ∙ ap (λ v. placed k v row) (sym (threes_more days i (omega arith))) ∙ c.loop-i.invariant
 
 pub returns : goal.returns

@@ -9,8 +9,8 @@ pub loop-day-init : goal.loop-day-init
 unfolding places
 loop-day-init c = refl
 
-pub overflow-add-count : goal.overflow-add-count
-overflow-add-count c = let few = places_taken c.loop-day.day (flags c.args.days) in omega (arith, few, c.loop-day.invariant)
+pub overflow_add-count : goal.overflow_add-count
+overflow_add-count c = let few = places_taken c.loop-day.day (flags c.args.days) in omega (arith, few, c.loop-day.invariant)
 
 pub loop-day-preserved : goal.loop-day-preserved
 loop-day-preserved c =

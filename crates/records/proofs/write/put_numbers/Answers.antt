@@ -8,7 +8,7 @@ use Rattle.records.proofs.Writing.{flat_more, length_flat}
 use Rattle.records.proofs.write.put_numbers.Goals as goal
 
 pub loop-i-init : goal.loop-i-init
-loop-i-init c = placed_none (c.args.at + 8) c.put-wide.new.out
+loop-i-init c = placed_none (c.args.at + 8) c.put_wide.new.out
 
 pub loop-i-preserved : goal.loop-i-preserved
 loop-i-preserved c =
@@ -16,13 +16,13 @@ loop-i-preserved c =
     let i = c.loop-i.i in
     let k = c.args.at + 8 in
     let l : length (flat eight (take i ns)) ≡ 8 * i = length_flat (take i ns) ∙ ap (λ n. 8 * n) (length-take-le i ns (omega arith)) in
-    more_at k (k + 8 * i) (flat eight (take i ns)) (eight (get_or ns i 0)) c.put-wide.new.out c.loop-i.out _ (omega arith) c.loop-i.invariant (omega arith) c.put-wide-in-loop-i.ensures
-    ∙ ap (λ w. placed k w c.put-wide.new.out) (sym (flat_more ns i (omega arith)))
+    more_at k (k + 8 * i) (flat eight (take i ns)) (eight (get_or ns i 0)) c.put_wide.new.out c.loop-i.out _ (omega arith) c.loop-i.invariant (omega arith) c.put_wide-in-loop-i.ensures
+    ∙ ap (λ w. placed k w c.put_wide.new.out) (sym (flat_more ns i (omega arith)))
 
 pub returns : goal.returns
 returns c =
     let ns = c.args.ns.now in
     let l = length_eight (length ns) in
-    let e : c.loop-i.out ≡ placed (c.args.at + 8) (flat eight ns) c.put-wide.new.out =
-    c.loop-i.invariant ∙ ap (λ w. placed (c.args.at + 8) (flat eight w) c.put-wide.new.out) (take_all c.loop-i.i ns (omega arith)) in
-    record { end = search rules; row = more_at c.args.at (c.args.at + 8) (eight (length ns)) (flat eight ns) c.args.out.now c.put-wide.new.out _ (omega arith) c.put-wide.ensures (omega arith) e }
+    let e : c.loop-i.out ≡ placed (c.args.at + 8) (flat eight ns) c.put_wide.new.out =
+    c.loop-i.invariant ∙ ap (λ w. placed (c.args.at + 8) (flat eight w) c.put_wide.new.out) (take_all c.loop-i.i ns (omega arith)) in
+    record { end = search rules; row = more_at c.args.at (c.args.at + 8) (eight (length ns)) (flat eight ns) c.args.out.now c.put_wide.new.out _ (omega arith) c.put_wide.ensures (omega arith) e }

@@ -13,18 +13,18 @@ returns c =
     let r = c.args.repeat in
     let k = c.args.at in
     let y = c.args.out.now in
-    let j = c.put-days-next.result in
-    let few = c.put-days-next.ensures.few in
-    let end = c.put-days-next.ensures.end in
+    let j = c.put_days-next.result in
+    let few = c.put_days-next.ensures.few in
+    let end = c.put_days-next.ensures.end in
     let h : k ≤ length y = omega arith in
     let l1 = length_eight r.step in
     let l2 = length_numbers (days_of r.weekdays) in
     let l3 = length_eight r.times in
     let l4 = length_eight r.last in
-    let w0 : Wrote k (kind_number r.kind ∷ []) y c.put-byte.new.out (k + 1) =
-    record { row = c.put-byte.ensures ∙ ap (λ b. placed k (b ∷ []) y) c.kind-byte.ensures; end = refl } in
-    let w1 = and_more w0 (eight r.step) c.put-wide.new.out (k + 9) h c.put-wide.ensures (omega arith) in
-    let w2 = and_more w1 (numbers (days_of r.weekdays)) c.put-days-next.new.out j h c.put-days-next.ensures.row (omega arith) in
-    let w3 = and_more w2 (eight r.times) c.put-wide-2.new.out (j + 8) h c.put-wide-2.ensures (omega arith) in
-    let w4 = and_more w3 (eight r.last) c.put-wide-3.new.out (j + 16) h c.put-wide-3.ensures (omega arith) in
+    let w0 : Wrote k (kind_number r.kind ∷ []) y c.put_byte.new.out (k + 1) =
+    record { row = c.put_byte.ensures ∙ ap (λ b. placed k (b ∷ []) y) c.kind_byte.ensures; end = refl } in
+    let w1 = and_more w0 (eight r.step) c.put_wide.new.out (k + 9) h c.put_wide.ensures (omega arith) in
+    let w2 = and_more w1 (numbers (days_of r.weekdays)) c.put_days-next.new.out j h c.put_days-next.ensures.row (omega arith) in
+    let w3 = and_more w2 (eight r.times) c.put_wide-2.new.out (j + 8) h c.put_wide-2.ensures (omega arith) in
+    let w4 = and_more w3 (eight r.last) c.put_wide-3.new.out (j + 16) h c.put_wide-3.ensures (omega arith) in
     record { end = w4.end; few = omega arith; row = w4.row }

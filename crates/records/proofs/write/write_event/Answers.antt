@@ -16,10 +16,10 @@ returns c =
     let e = c.args.event in
     let l0 = length_text t in
     let l2 = length_numbers d in
-    let w0 : Wrote 0 (with_length t) y c.put-text-at.new.out c.put-text-at.result = record { row = c.put-text-at.ensures.row; end = omega (arith, c.put-text-at.ensures.end) } in
-    let w1 = and_more w0 (timing_spelled e) c.put-timing-at.new.out c.put-timing-at.result (omega arith) c.put-timing-at.ensures.row c.put-timing-at.ensures.end in
-    let w2 = and_more w1 (numbers d) c.put-numbers.new.out c.put-numbers.result (omega arith) c.put-numbers.ensures.row (omega (arith, c.put-numbers.ensures.end)) in
+    let w0 : Wrote 0 (with_length t) y c.put_text-at.new.out c.put_text-at.result = record { row = c.put_text-at.ensures.row; end = omega (arith, c.put_text-at.ensures.end) } in
+    let w1 = and_more w0 (timing_spelled e) c.put_timing-at.new.out c.put_timing-at.result (omega arith) c.put_timing-at.ensures.row c.put_timing-at.ensures.end in
+    let w2 = and_more w1 (numbers d) c.put_numbers.new.out c.put_numbers.result (omega arith) c.put_numbers.ensures.row (omega (arith, c.put_numbers.ensures.end)) in
     let s : with_length t ++ timing_spelled e ++ numbers d ≡ event_spelled (event_with e t d) = event_regrouped e t d in
     let f : writes t d y ≡ true = and_from _ _ (le-leb (length t) 255 (omega arith)) (and_from _ _ (le-leb (length d) 1000 (omega arith)) (le-leb 8386 (length y) (omega arith))) in
-    let n : c.put-numbers.result ≡ length (event_spelled (event_with e t d)) = w2.end ∙ (let z = ap length s in omega arith) in
+    let n : c.put_numbers.result ≡ length (event_spelled (event_with e t d)) = w2.end ∙ (let z = ap length s in omega arith) in
     record { value = rw f (ap Some n); row = rw f (w2.row ∙ placed_front _ y ∙ ap (λ w. over w y) s) }

@@ -8,4 +8,4 @@ pub returns : goal.returns
 unfolding rising
 returns c =
     let w : c.with.result ≡ with_day c.args.weekday no_days = c.with.ensures ∙ ap (with_day c.args.weekday) c.none.ensures in
-    rw (← w) (c.number.ensures ∙ ap number (c.next-occurrence.ensures.is refl))
+    rw (← w) (c.number.ensures ∙ ap number (c.next_occurrence.ensures.is refl))

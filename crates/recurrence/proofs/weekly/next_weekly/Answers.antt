@@ -6,9 +6,9 @@ pub returns-in-Some : goal.returns-in-Some
 unfolding next_weekly
 returns-in-Some c = search rules
 
-pub returns-in-Some-on-from : goal.returns-in-Some-on-from
+pub returns-in-Some-on_from : goal.returns-in-Some-on_from
 unfolding next_weekly
-returns-in-Some-on-from c = search rules
+returns-in-Some-on_from c = search rules
 
 pub returns-in-None : goal.returns-in-None
 unfolding next_weekly

@@ -4,5 +4,5 @@ use Rattle.station.proofs.spell.put_eight.Goals as goal
 
 pub returns : goal.returns
 returns c =
-    c.in-ok-extend-from-slice.ensures.items
-    ∙ ap (λ l. vec_items c.args.out.now ++ l) (c.to-be-bytes.ensures ∙ eight_is c.args.n)
+    c.in_ok-extend_from_slice.ensures.items
+    ∙ ap (λ l. vec_items c.args.out.now ++ l) (c.to_be_bytes.ensures ∙ eight_is c.args.n)

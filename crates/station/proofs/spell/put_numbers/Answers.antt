@@ -9,7 +9,7 @@ pub loop-n-preserved : goal.loop-n-preserved
 loop-n-preserved c =
     let list = c.args.list.now in
     let i = c.loop-n.n-index in
-    ap (λ l. l ++ flat eight (drop (i + 1) list)) c.in-ok-put-eight-2.ensures
+    ap (λ l. l ++ flat eight (drop (i + 1) list)) c.in_ok-put_eight-2.ensures
     ∙ append_assoc (vec_items c.loop-n.out) (eight (get_or list i 0)) (flat eight (drop (i + 1) list))
     ∙ sym (at_drop_more (λ x. vec_items c.loop-n.out ++ flat eight x) list i 0 c.loop-n-test.true)
     ∙ c.loop-n.invariant
@@ -17,4 +17,4 @@ loop-n-preserved c =
 pub returns : goal.returns
 returns c =
     let none = at_drop_all (λ x. vec_items c.loop-n.out ++ flat eight x) c.args.list.now c.loop-n.n-index c.loop-n-test.false in
-    more _ c.in-ok-put-eight.ensures (sym (append-nil _) ∙ sym none ∙ c.loop-n.invariant) ∙ simp append_assoc
+    more _ c.in_ok-put_eight.ensures (sym (append-nil _) ∙ sym none ∙ c.loop-n.invariant) ∙ simp append_assoc

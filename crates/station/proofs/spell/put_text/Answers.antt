@@ -6,5 +6,5 @@ use Rattle.station.proofs.spell.put_text.Goals as goal
 
 pub returns : goal.returns
 returns c =
-    (more _ c.in-ok-put-eight.ensures c.in-ok-extend-from-slice.ensures.items)
+    (more _ c.in_ok-put_eight.ensures c.in_ok-extend_from_slice.ensures.items)
     ∙ simp append_assoc

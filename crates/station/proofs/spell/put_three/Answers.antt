@@ -5,5 +5,5 @@ use Rattle.station.proofs.spell.put_three.Goals as goal
 
 pub returns : goal.returns
 returns c =
-    more _ c.in-ok-put-two.ensures c.in-ok-put-eight.ensures
+    more _ c.in_ok-put_two.ensures c.in_ok-put_eight.ensures
     ∙ two_more (vec_items c.args.out.now) (c.args.code ∷ eight c.args.a ++ eight c.args.b) (eight c.args.c)

@@ -5,5 +5,5 @@ use Rattle.station.proofs.spell.put_two.Goals as goal
 
 pub returns : goal.returns
 returns c =
-    more _ (more _ c.in-ok-push.ensures.items c.in-ok-put-eight.ensures) c.in-ok-put-eight-2.ensures
+    more _ (more _ c.in_ok-push.ensures.items c.in_ok-put_eight.ensures) c.in_ok-put_eight-2.ensures
     ∙ three_more (vec_items c.args.out.now) (c.args.code ∷ []) (eight c.args.a) (eight c.args.b)

@@ -6,5 +6,5 @@ use Rattle.station.proofs.spell.put_zone.Goals as goal
 
 pub returns : goal.returns
 returns c =
-    (more _ (more _ (more _ (more _ (more _ (more _ c.in-ok-put-eight.ensures c.in-ok-put-eight-2.ensures) c.in-ok-push.ensures.items) c.in-ok-push-2.ensures.items) c.in-ok-push-3.ensures.items) c.in-ok-push-4.ensures.items) c.in-ok-put-eight-3.ensures)
+    (more _ (more _ (more _ (more _ (more _ (more _ c.in_ok-put_eight.ensures c.in_ok-put_eight-2.ensures) c.in_ok-push.ensures.items) c.in_ok-push-2.ensures.items) c.in_ok-push-3.ensures.items) c.in_ok-push-4.ensures.items) c.in_ok-put_eight-3.ensures)
     ∙ simp append_assoc

@@ -8,9 +8,9 @@ pub returns-then-count : goal.returns-then-count
 unfolding a_date
 returns-then-count c = grind (arith, nat_tests)
 
-pub returns-then-year-gt-LAST-YEAR : goal.returns-then-year-gt-LAST-YEAR
+pub returns-then-year-gt-LAST_YEAR : goal.returns-then-year-gt-LAST_YEAR
 unfolding a_date
-returns-then-year-gt-LAST-YEAR c = grind (arith, nat_tests)
+returns-then-year-gt-LAST_YEAR c = grind (arith, nat_tests)
 
 pub returns : goal.returns
 returns c =

@@ -13,26 +13,26 @@ returns-after-place c e =
     let d = c.args.self.now in
     elim c.if-place.branch [
       | then-place w ↦
-          let long : length w.tear-page.new.side ≡ vec_len d.second = omega (arith, w.tear-page.auto.side, w.as-mut-slice.ensures.len) in
-          let page : length c.as-slice-page.result.now ≡ 512 = ap length c.as-slice-page.ensures.value ∙ sym d.page.ok.0 ∙ e in
+          let long : length w.tear_page.new.side ≡ vec_len d.second = omega (arith, w.tear_page.auto.side, w.as_mut_slice.ensures.len) in
+          let page : length c.as_slice-page.result.now ≡ 512 = ap length c.as_slice-page.ensures.value ∙ sym d.page.ok.0 ∙ e in
           ap (λ (s : Devices). device_of (record { first = s.first; second = s.second; under_way = None; page = s.page })) w.self-is
-          ∙ ap (λ s. two (in_pages (vec_items d.first)) (in_pages s)) (with_items_is d.second w.tear-page.new.side long)
-          ∙ ap (λ s. two (in_pages (vec_items d.first)) (s)) (w.tear-page.ensures page ∙ (λ i. set_page (in_pages (w.as-mut-slice.ensures.value i)) c.in-Some.place.page (half (c.as-slice-page.ensures.value i) (page_at (in_pages (w.as-mut-slice.ensures.value i)) c.in-Some.place.page))))
+          ∙ ap (λ s. two (in_pages (vec_items d.first)) (in_pages s)) (with_items_is d.second w.tear_page.new.side long)
+          ∙ ap (λ s. two (in_pages (vec_items d.first)) (s)) (w.tear_page.ensures page ∙ (λ i. set_page (in_pages (w.as_mut_slice.ensures.value i)) c.in-Some.place.page (half (c.as_slice-page.ensures.value i) (page_at (in_pages (w.as_mut_slice.ensures.value i)) c.in-Some.place.page))))
           ∙ ap (λ b. stopped (record { first = in_pages (vec_items d.first); second = in_pages (vec_items d.second); under_way = record { side = side_number b; at = c.in-Some.place.page; page = vec_items d.page } ∷ [] }) 2) (sym w.if-place.true)
           ∙ ap (λ u. stopped (record { first = in_pages (vec_items d.first); second = in_pages (vec_items d.second); under_way = waiting u (vec_items d.page) }) 2) (sym c.in-Some.is)
       | else-place w ↦
-          let long : length w.tear-page-else-place.new.side ≡ vec_len d.first = omega (arith, w.tear-page-else-place.auto.side, w.as-mut-slice-else-place.ensures.len) in
-          let page : length c.as-slice-page.result.now ≡ 512 = ap length c.as-slice-page.ensures.value ∙ sym d.page.ok.0 ∙ e in
+          let long : length w.tear_page-else-place.new.side ≡ vec_len d.first = omega (arith, w.tear_page-else-place.auto.side, w.as_mut_slice-else-place.ensures.len) in
+          let page : length c.as_slice-page.result.now ≡ 512 = ap length c.as_slice-page.ensures.value ∙ sym d.page.ok.0 ∙ e in
           ap (λ (s : Devices). device_of (record { first = s.first; second = s.second; under_way = None; page = s.page })) w.self-is
-          ∙ ap (λ s. two (in_pages s) (in_pages (vec_items d.second))) (with_items_is d.first w.tear-page-else-place.new.side long)
-          ∙ ap (λ s. two (s) (in_pages (vec_items d.second))) (w.tear-page-else-place.ensures page ∙ (λ i. set_page (in_pages (w.as-mut-slice-else-place.ensures.value i)) c.in-Some.place.page (half (c.as-slice-page.ensures.value i) (page_at (in_pages (w.as-mut-slice-else-place.ensures.value i)) c.in-Some.place.page))))
+          ∙ ap (λ s. two (in_pages s) (in_pages (vec_items d.second))) (with_items_is d.first w.tear_page-else-place.new.side long)
+          ∙ ap (λ s. two (s) (in_pages (vec_items d.second))) (w.tear_page-else-place.ensures page ∙ (λ i. set_page (in_pages (w.as_mut_slice-else-place.ensures.value i)) c.in-Some.place.page (half (c.as_slice-page.ensures.value i) (page_at (in_pages (w.as_mut_slice-else-place.ensures.value i)) c.in-Some.place.page))))
           ∙ ap (λ b. stopped (record { first = in_pages (vec_items d.first); second = in_pages (vec_items d.second); under_way = record { side = side_number b; at = c.in-Some.place.page; page = vec_items d.page } ∷ [] }) 2) (sym w.if-place.false)
           ∙ ap (λ u. stopped (record { first = in_pages (vec_items d.first); second = in_pages (vec_items d.second); under_way = waiting u (vec_items d.page) }) 2) (sym c.in-Some.is)
     ]
 
-pub returns-in-default : goal.returns-in-default
+pub returns-in_default : goal.returns-in_default
 unfolding left
-returns-in-default c e =
+returns-in_default c e =
     let d = c.args.self.now in
-    ap (λ u. record { first = in_pages (vec_items d.first); second = in_pages (vec_items d.second); under_way = waiting u (vec_items d.page) }) c.in-default.is
-    ∙ ap (λ u. stopped (record { first = in_pages (vec_items d.first); second = in_pages (vec_items d.second); under_way = waiting u (vec_items d.page) }) 2) (sym c.in-default.is)
+    ap (λ u. record { first = in_pages (vec_items d.first); second = in_pages (vec_items d.second); under_way = waiting u (vec_items d.page) }) c.in_default.is
+    ∙ ap (λ u. stopped (record { first = in_pages (vec_items d.first); second = in_pages (vec_items d.second); under_way = waiting u (vec_items d.page) }) 2) (sym c.in_default.is)

@@ -50,4 +50,4 @@ returns-in-Stops c =
 
 pub returns-in-Loses : goal.returns-in-Loses
 returns-in-Loses c =
-    c.may-lose.ensures ∙ loses_ok _ c.args.self.now.both _ ∙ ap (λ k. proper_so c.args.self.now.up c.args.self.now.both (item_of k ∷ [])) (sym c.in-Loses.is)
+    c.may_lose.ensures ∙ loses_ok _ c.args.self.now.both _ ∙ ap (λ k. proper_so c.args.self.now.up c.args.self.now.both (item_of k ∷ [])) (sym c.in-Loses.is)

@@ -12,26 +12,26 @@ returns-then-not-counts c up =
     turn_out (event_with c.args.self [] c.args.left_out.now) c.args.from c.loop-next.day c.loop-next.invariant.0 c.in-Some.next c.in-Some.ensures
     c.loop-next.invariant.2 (sym c.if-not-counts.ensures)
 
-pub returns-then-not-is-left-out : goal.returns-then-not-is-left-out
-returns-then-not-is-left-out c up =
+pub returns-then-not-is_left_out : goal.returns-then-not-is_left_out
+returns-then-not-is_left_out c up =
     turn_found (event_with c.args.self [] c.args.left_out.now) c.args.from c.loop-next.day c.loop-next.invariant.0 c.in-Some.next c.in-Some.ensures
-    c.loop-next.invariant.1 c.loop-next.invariant.2 (sym c.if-not-counts.ensures) (sym (c.if-not-is-left-out.ensures.exact up))
+    c.loop-next.invariant.1 c.loop-next.invariant.2 (sym c.if-not-counts.ensures) (sym (c.if-not-is_left_out.ensures.exact up))
 
-pub overflow-add-day : goal.overflow-add-day
-overflow-add-day c =
+pub overflow_add-day : goal.overflow_add-day
+overflow_add-day c =
     let k = turn_known (event_with c.args.self [] []) c.args.from c.loop-next.day c.loop-next.invariant.0 c.in-Some.next c.in-Some.ensures in
     omega (arith, k.2)
 
 pub loop-next-smaller : goal.loop-next-smaller
 loop-next-smaller c =
     turn_fewer (event_with c.args.self [] c.args.left_out.now) c.args.from c.loop-next.day c.loop-next.invariant.0 c.in-Some.next c.in-Some.ensures
-    (c.if-not-is-left-out.ensures.there tt)
+    (c.if-not-is_left_out.ensures.there tt)
 
 pub loop-next-preserved : goal.loop-next-preserved
 loop-next-preserved c =
     turn_over (event_with c.args.self [] c.args.left_out.now) c.args.from c.loop-next.day c.loop-next.invariant.0 c.in-Some.next c.in-Some.ensures
-    c.loop-next.invariant.1 c.loop-next.invariant.2 (c.if-not-is-left-out.ensures.there tt)
+    c.loop-next.invariant.1 c.loop-next.invariant.2 (c.if-not-is_left_out.ensures.there tt)
 
 pub returns : goal.returns
 returns c up =
-    turn_none (event_with c.args.self [] c.args.left_out.now) c.args.from c.loop-next.day c.loop-next.invariant.0 c.loop-next.invariant.2 c.in-default.ensures
+    turn_none (event_with c.args.self [] c.args.left_out.now) c.args.from c.loop-next.day c.loop-next.invariant.0 c.loop-next.invariant.2 c.in_default.ensures

@@ -8,8 +8,8 @@ use Rattle.recurrence.proofs.event.Event.next_kept.Given as goal
 abbrev pub invariant-loop-next : goal.invariant-loop-next
 invariant-loop-next l =
     (known (repeat_of l.self.repeat) l.self.first l.day ≡ true)
-    × (l.from ≤ l.day) × Passed (event_with l.self [] l.left-out) l.from l.day
+    × (l.from ≤ l.day) × Passed (event_with l.self [] l.left_out) l.from l.day
 
 -- each turn but the last passes over a day that is left out
 abbrev pub decreases-loop-next : goal.decreases-loop-next
-decreases-loop-next l = left_from l.left-out l.day
+decreases-loop-next l = left_from l.left_out l.day

@@ -14,6 +14,6 @@ pub returns-in-Daily : goal.returns-in-Daily
 unfolding often
 returns-in-Daily c = search rules
 
-pub returns-in-default : goal.returns-in-default
+pub returns-in_default : goal.returns-in_default
 unfolding often
-returns-in-default c = search rules
+returns-in_default c = search rules
