@@ -6,7 +6,10 @@ use Rattle.records.proofs.sheets.put_fields.Goals as goal
 pub put_number-requires : goal.put_number-requires
 put_number-requires c =
     let ws = c.args.widths.now in
-    (omega (arith, widths_more ws c.loop-i.i (omega arith), c.loop-i.invariant.1), every_at ws c.loop-i.i c.requires.1 (omega arith))
+    record {
+      width_in_bounds = omega (arith, widths_more ws c.loop-i.i (omega arith), c.loop-i.invariant.1);
+      width_bound = every_at ws c.loop-i.i c.requires.widths_value (omega arith);
+    }
 
 pub overflow_add-start : goal.overflow_add-start
 overflow_add-start c = omega (arith, widths_more c.args.widths.now c.loop-i.i (omega arith), c.loop-i.invariant.1)

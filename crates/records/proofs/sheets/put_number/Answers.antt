@@ -7,4 +7,4 @@ pub returns : goal.returns
 returns c =
     let w = c.args.width in
     c.put_bytes.ensures
-    ∙ ap (λ v. placed c.args.start v c.args.row.now) (ap (λ v. take (8 - (8 - w)) (drop (8 - w) v)) c.eight_bytes-bytes.ensures ∙ low_of_eight w c.args.number c.requires.1)
+    ∙ ap (λ v. placed c.args.start v c.args.row.now) (ap (λ v. take (8 - (8 - w)) (drop (8 - w) v)) c.eight_bytes-bytes.ensures ∙ low_of_eight w c.args.number c.requires.width_bound)
