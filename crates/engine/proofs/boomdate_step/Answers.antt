@@ -3,4 +3,4 @@ use Rattle.engine.proofs.boomdate_step.Goals as goal
 
 pub returns : goal.returns
 unfolding StepNumbered
-returns c = (c.step.result, c.step.ensures.0, c.numbered.ensures)
+returns c = (c.step.result, c.step.ensures.step_says, c.numbered.ensures)
