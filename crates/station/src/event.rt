@@ -64,7 +64,7 @@ pub fn read_event(heap: Global, words: &mut Words<'_>) -> Result<Event, Bad> {
             None => break,
         }
     }
-    event.left_out.sort();
+    event.left_out.sort_unstable();
     event.left_out.dedup();
     Ok(event)
 }
@@ -166,7 +166,7 @@ fn read_weekdays(words: &mut Words<'_>, weekdays: &mut Vec<u64>) -> Result<(), B
     if weekdays.is_empty() {
         return Err(Bad::Wants(wants));
     }
-    weekdays.sort();
+    weekdays.sort_unstable();
     weekdays.dedup();
     Ok(())
 }

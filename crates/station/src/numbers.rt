@@ -61,7 +61,7 @@ pub fn people(heap: Global, words: &mut Words<'_>) -> Result<Vec<u64>, Bad> {
     for part in text.split(',') {
         all.push(parse_person(part.as_bytes())?)?;
     }
-    all.sort();
+    all.sort_unstable();
     all.dedup();
     Ok(all)
 }
