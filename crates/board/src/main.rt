@@ -1,4 +1,6 @@
 // Prints what is listed of a person, one line each.
+#![tactic(auto)]
+
 mod row;
 mod say;
 

@@ -1,11 +1,10 @@
 -- What is written is read back: each text as its bytes, and then digit by digit. Assumes nothing.
-use Rattle.std.proofs.Common.{◌≡◌, ℕ, ◌+◌, ◌-◌, ◌*◌, ◌/◌, ◌%◌, ◌<◌, ◌≤◌, Bool, true, ◌&&◌, eqb, ltb, leb, List, [], ◌∷◌, ◌++◌, length, get_or, Some, Ok, decimal, refl, ap, ◌∙◌, inl, inr, arith}
+use Rattle.std.proofs.Common.{◌≡◌, ℕ, ◌+◌, ◌*◌, ◌/◌, ◌%◌, ◌<◌, ◌≤◌, true, List, [], ◌∷◌, ◌++◌, length, get_or, Some, Ok, decimal, refl, ap, ◌∙◌, inl, inr, arith}
 use Rattle.std.proofs.lemmas.Fmt.{decimal_digit, decimal_step}
 use Rattle.std.proofs.lemmas.Bool.{cases_lt, ne_eqb}
 use Rattle.std.proofs.lemmas.Bool.Decides.{nat_tests}
-use Rattle.pages.specs.Lists.{pick}
-use Rattle.dates.specs.Calendar.{a_date, month_days}
-use Rattle.dates.specs.Text.{two, date_written, clock_written, length_written}
+use Rattle.dates.specs.Calendar.{a_date}
+use Rattle.dates.specs.Text.{two, date_written, clock_written}
 use Rattle.dates.specs.Read.{digit_at, two_at, is_at, date_parts, date_checked, date_read, clock_parts, clock_checked, clock_read, length_parts, length_checked}
 use Rattle.dates.specs.Back.{DateReadBack, ClockReadBack, LengthReadBack}
 use Rattle.dates.proofs.Dates.{month_small}

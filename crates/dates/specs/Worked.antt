@@ -1,6 +1,6 @@
 -- Worked examples: days, their dates and weekdays, and the minutes of times. Assumes nothing: these are statements, whose proof is owed.
 use Rattle.std.specs.Prelude.{◌≡◌, ℕ, ◌+◌, ◌*◌}
-use Rattle.dates.specs.Date.{Date, date_of, day_of, weekday}
+use Rattle.dates.specs.Date.{date_of, day_of, weekday}
 
 abbrev Is : (n y m d w : ℕ) → Type 0
 Is n y m d w = (date_of n ≡ record { year = y; month = m; day = d }) × (day_of y m d ≡ n) × (weekday n ≡ w)

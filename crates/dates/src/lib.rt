@@ -1,4 +1,6 @@
 // Days, dates and zones.
+#![tactic(auto)]
+
 ghost use Rattle.std.specs.Prelude.{◌≡◌, ◌-◌, ◌^◌};
 ghost use Rattle.pages.specs.Lists.{pick};
 ghost use Rattle.dates.specs.Date.{day_of};

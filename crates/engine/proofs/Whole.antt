@@ -1,10 +1,9 @@
 -- The main promise, while no command is known: the machine reads and writes nothing, and answers 1 or 2.
-use Rattle.std.proofs.Common.{◌≡◌, ℕ, zero, suc, ◌<◌, ◌≤◌, Bool, true, false, cond, ◌&&◌, eqb, ltb, leb, ◌⊎◌, List, [], ◌∷◌, ◌++◌, length, get_or, set, replicate, Some, None, Option, sym, refl, ap, ◌∙◌, subst, inl, inr, arith, length-set, get_or-set_same}
-use Rattle.std.proofs.lemmas.Bool.{lt-ltb, le-leb, leb-true, eq-eqb, eqb-true, and_from, and_parts, false≢true}
-use Rattle.pages.specs.Lists.{pick, every, so_many}
-use Rattle.pages.specs.Device.{Device, Page, two, blank, left, landed_all}
-use Rattle.pages.specs.Run.{Engine, World, Event, on, said, page, next, Act, done, refused, Step, Ran, ran, on_device, runs, one_act, Item, dark, power, power_stops, whole, stops, loses, proper_so, Right, Steady, all_small}
-use Rattle.dates.specs.Zone.{no_zone}
+use Rattle.std.proofs.Common.{◌≡◌, ℕ, zero, suc, ◌<◌, ◌≤◌, Bool, true, false, cond, ◌&&◌, eqb, ltb, List, [], ◌∷◌, length, set, replicate, Some, None, Option, sym, refl, ap, ◌∙◌, subst, inl, inr, arith, length-set, get_or-set_same}
+use Rattle.std.proofs.lemmas.Bool.{lt-ltb, le-leb, leb-true, eq-eqb, and_from, and_parts, false≢true}
+use Rattle.pages.specs.Lists.{pick, every}
+use Rattle.pages.specs.Device.{Page, two, blank, left, landed_all}
+use Rattle.pages.specs.Run.{World, Event, on, said, page, next, Act, done, refused, Step, Ran, ran, on_device, runs, one_act, Item, dark, power, power_stops, whole, stops, loses, proper_so, Right, Steady, all_small}
 use Rattle.records.specs.Command.{nothing}
 use Rattle.records.specs.House.{Plain}
 use Rattle.records.specs.Promise.{May}

@@ -1,4 +1,6 @@
 // The house as a machine: told one thing, it does one act.
+#![tactic(auto)]
+
 ghost use Rattle.std.specs.Prelude.{◌≡◌};
 ghost use Rattle.engine.specs.Acts.{told_number};
 ghost use Rattle.engine.specs.Entry.{StepSays, StepNumbered, step_fits};

@@ -1,6 +1,5 @@
 -- The files of a house, as they were found. Assumes nothing: these are definitions.
 use Rattle.std.specs.Prelude.{ℕ, ◌≤◌}
-use Rattle.host.specs.declared.files.Sides.{Sides}
 use Rattle.host.specs.declared.files.Opened.{Opened}
 use Rattle.host.specs.declared.files.Opened.TheVariants.{Both, New, FirstMade, SecondMade, NoSide, Unequal, NoHouse}
 

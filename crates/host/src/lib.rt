@@ -1,3 +1,5 @@
 // A house on two files of pages: the acts of the machine carried out, for the programs that keep one.
+#![tactic(auto)]
+
 pub mod files;
 pub mod house;

@@ -1,9 +1,9 @@
 -- Pages at addresses: what is looked up, how often an address stands among them, and what is left of it when some are changed.
-use Rattle.std.proofs.Common.{◌≡◌, ℕ, zero, suc, ◌+◌, ◌<◌, ◌≤◌, Bool, true, false, eqb, ◌⊎◌, List, [], ◌∷◌, ◌++◌, length, get_or, take, sym, refl, ap, ◌∙◌, inl, inr, zero-le, arith}
+use Rattle.std.proofs.Common.{◌≡◌, ℕ, zero, suc, ◌+◌, ◌<◌, ◌≤◌, Bool, true, false, eqb, ◌⊎◌, List, [], ◌∷◌, ◌++◌, length, take, sym, refl, ap, ◌∙◌, inl, inr, zero-le, arith}
 use Rattle.std.proofs.lemmas.Bool.{eq-eqb, ne_eqb, eqb-true, eqb-false}
 use Rattle.pages.specs.Lists.{bit, pick, those, added_up}
 use Rattle.pages.specs.Device.{Page, page_at, set_page}
-use Rattle.pages.specs.Cells.{Cell, cell, written, looked_up, keys, contents, times}
+use Rattle.pages.specs.Cells.{Cell, cell, written, looked_up, keys, times}
 use Rattle.pages.proofs.Pages.{length_set_page, page_at_set, page_at_other}
 
 pub zero_or : (n : ℕ) → (n ≡ 0) ⊎ (1 ≤ n)

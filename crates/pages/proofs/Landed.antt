@@ -2,7 +2,7 @@
 use Rattle.std.proofs.Common.{◌≡◌, ℕ, zero, suc, ◌<◌, Bool, true, false, ◌&&◌, eqb, List, sym, refl, true≢false, arith}
 use Rattle.std.proofs.lemmas.Bool.{eqb-false}
 use Rattle.pages.specs.Lists.{pick}
-use Rattle.pages.specs.Device.{Device, Page, two, with_page, read_page, landed, landed_all, left, lost}
+use Rattle.pages.specs.Device.{Page, two, with_page, read_page, landed, landed_all, left, lost}
 use Rattle.pages.specs.Promise.{LandedStays}
 use Rattle.pages.proofs.Pages.{page_at_other}
 

@@ -1,7 +1,7 @@
 -- The front of a row overwritten, element by element, and by numbers of eight bytes.
-use Rattle.std.proofs.Common.{◌≡◌, ℕ, zero, suc, ◌+◌, ◌-◌, ◌*◌, ◌<◌, ◌≤◌, List, [], ◌∷◌, ◌++◌, map, length, get_or, take, drop, set, replicate, sym, refl, ap, ◌∙◌, arith}
+use Rattle.std.proofs.Common.{◌≡◌, ℕ, zero, suc, ◌+◌, ◌*◌, ◌<◌, ◌≤◌, List, [], ◌∷◌, ◌++◌, map, length, get_or, take, drop, set, replicate, sym, refl, ap, ◌∙◌, arith}
 use borrow.Rule.Slice.PartMut.{put_mid}
-use Rattle.std.proofs.lemmas.List.{take_more, take_all, drop_more, set_at, length-append, append_assoc, append-nil, length-take-le, length-take, length-map, map_more, drop-drop, drop_at, take_at}
+use Rattle.std.proofs.lemmas.List.{take_more, take_all, drop_more, set_at, length-append, append_assoc, append-nil, length-take-le, length-map, map_more, drop-drop, drop_at, take_at}
 use Rattle.pages.specs.Lists.{flat}
 use Rattle.pages.specs.Bytes.{eight, over}
 use Rattle.pages.specs.Device.{zeros}

@@ -1,5 +1,5 @@
 -- Pages at addresses: what a batch of them makes of a list of pages, and how often an address stands among them. Assumes nothing: these are definitions.
-use Rattle.std.specs.Prelude.{ℕ, zero, suc, ◌+◌, Bool, true, false, List, [], ◌∷◌, ◌==◌}
+use Rattle.std.specs.Prelude.{ℕ, ◌+◌, List, [], ◌∷◌, ◌==◌}
 use Rattle.pages.specs.Lists.{bit, pick}
 use Rattle.pages.specs.Device.{Page, set_page}
 

@@ -1,10 +1,9 @@
 -- A commit, as a machine by value: told a header or that the last act is done, it hands on its next state and deed. Where it is told what it does
 -- not expect, or a number is out of its range, there is no next state. Assumes nothing: these are definitions.
-use Rattle.std.specs.Prelude.{ℕ, ◌+◌, Bool, cond, not, ◌&&◌, List, [], ◌∷◌, length, drop, Some, None, Option, ◌==◌, nat_lt, slice_index}
+use Rattle.std.specs.Prelude.{ℕ, ◌+◌, Bool, cond, not, ◌&&◌, List, ◌∷◌, length, drop, Some, None, Option, ◌==◌, nat_lt, slice_index}
 use Rattle.pages.specs.Lists.{bit}
 use Rattle.pages.specs.Store.{area, slot}
 use Rattle.pages.specs.Waking.{home_of}
-use Rattle.pages.specs.declared.deed.Content.{Content}
 use Rattle.pages.specs.declared.deed.Content.TheVariants.{Header, Batch}
 use Rattle.pages.specs.declared.deed.Deed.{Deed}
 use Rattle.pages.specs.declared.deed.Deed.TheVariants.{Read, Write, Ready}

@@ -1,9 +1,8 @@
 -- Power coming up, as a machine by value: told a header, a page or that the last act is done, it hands on its next state and deed. Where it is told
 -- what it does not expect, or a number is out of its range, there is no next state. Assumes nothing: these are definitions.
-use Rattle.std.specs.Prelude.{ℕ, suc, ◌+◌, ◌-◌, Bool, true, false, cond, ◌&&◌, List, [], ◌∷◌, length, Some, None, Option, ◌==◌, nat_le, nat_lt, slice_index}
+use Rattle.std.specs.Prelude.{ℕ, ◌+◌, ◌-◌, Bool, true, false, cond, ◌&&◌, List, ◌∷◌, length, Some, None, Option, ◌==◌, nat_le, nat_lt, slice_index}
 use Rattle.pages.specs.Device.{zeros}
 use Rattle.pages.specs.Store.{heads_of, slot}
-use Rattle.pages.specs.declared.deed.Content.{Content}
 use Rattle.pages.specs.declared.deed.Content.TheVariants.{Blank, Told, Header}
 use Rattle.pages.specs.declared.deed.Deed.{Deed}
 use Rattle.pages.specs.declared.deed.Deed.TheVariants.{Read, Write, Ready}

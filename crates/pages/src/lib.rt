@@ -1,4 +1,6 @@
 // Devices of pages, numbers and bytes on them, and the store that is kept twice.
+#![tactic(auto)]
+
 pub mod bytes;
 pub mod deed;
 pub mod heads;

@@ -1,4 +1,6 @@
 // Plays a day with stops on two devices in memory: a script on standard input, an answer for each of its items.
+#![tactic(auto)]
+
 mod devices;
 mod player;
 mod run;

@@ -1,12 +1,11 @@
 -- Events.
-use Rattle.std.proofs.Common.{◌≡◌, ℕ, zero, suc, ◌+◌, ◌-◌, ◌*◌, ◌<◌, ◌≤◌, Bool, true, false, cond, ◌&&◌, eqb, ltb, leb, List, [], ◌∷◌, ◌++◌, length, get_or, take, drop, set, Some, None, Option, sym, refl, ap, ◌∙◌, subst, arith, get_or-set_other}
+use Rattle.std.proofs.Common.{◌≡◌, ℕ, zero, suc, ◌+◌, ◌<◌, ◌≤◌, Bool, true, false, ◌&&◌, eqb, ltb, leb, List, [], ◌∷◌, ◌++◌, length, get_or, drop, Some, sym, refl, ap, ◌∙◌, subst, arith, get_or-set_other}
 use Rattle.std.proofs.lemmas.Bool.{lt-ltb, ltb-true, le-leb, leb-true, and_from, and_parts}
 use Rattle.std.proofs.lemmas.List.{append-nil, append_assoc}
-use Rattle.pages.specs.Lists.{pick, every}
 use Rattle.pages.specs.Bytes.{all_bytes, eight, with_length}
 use Rattle.dates.specs.Limits.{a_day}
-use Rattle.recurrence.specs.Event.{Repeat as MeantRepeat, Event as MeantEvent, a_repeat, an_event, rising}
-use Rattle.recurrence.specs.Value.{kind_number, kind_of, repeat_of, event_with}
+use Rattle.recurrence.specs.Event.{Repeat as MeantRepeat, Event as MeantEvent, a_repeat, an_event}
+use Rattle.recurrence.specs.Value.{kind_number, kind_of, repeat_of}
 use Rattle.recurrence.specs.Week.{flags, places, days_of, no_days, with_day}
 use Rattle.recurrence.specs.declared.event.Weekdays.{Weekdays}
 use Rattle.recurrence.specs.declared.event.Repeat.{Repeat}
@@ -17,11 +16,10 @@ use Rattle.records.specs.declared.command.Part.{Part}
 use Rattle.records.specs.declared.command.Draft.{Draft}
 use Rattle.records.specs.declared.command.Command.{Command}
 use Rattle.records.specs.declared.command.Command.TheVariants.{Put, Change}
-use Rattle.records.specs.Reader.{then, number_at, wide, narrow, text, climbs, row, marks, weekdays, repeating, timing, draft, any_number, find_put, find_change, meant, event_in, numbers_from, numbers_in, bytes_in}
-use Rattle.records.proofs.Fields.{Spelt, onto, closed, Back, ranged, went, kept, wide_only, wide_back, narrow_only, narrow_back, text_only, text_back, ended_only, ended_back}
+use Rattle.records.specs.Reader.{number_at, climbs, marks, weekdays, repeating, timing, draft, any_number, find_put, find_change, event_in, numbers_from, numbers_in}
+use Rattle.records.proofs.Fields.{Spelt, onto, closed, ranged, went, wide_only, wide_back, narrow_only, narrow_back, text_only, text_back, ended_only, ended_back}
 use Rattle.records.proofs.Lists.{steps, steps_from, steps_rising, steps_every, steps_few, climbs_steps, row_only, row_back}
 use Rattle.records.proofs.Simple.{Good, Found}
-use Rattle.records.proofs.Listed.{regroup_3}
 
 day_from : (n : ℕ) → 11 ≤ n → n ≤ 72999 → a_day n ≡ true
 day_from n a b = and_from _ _ (le-leb 11 n a) (lt-ltb n 73000 (omega arith))

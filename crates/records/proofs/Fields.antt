@@ -1,8 +1,8 @@
 -- Each field: what a reader accepts was written so (`-only`), and what was written so it accepts (`-back`), with any rest behind it.
-use Rattle.std.proofs.Common.{◌≡◌, ℕ, zero, suc, ◌+◌, ◌-◌, ◌*◌, ◌<◌, ◌≤◌, Bool, true, false, cond, ◌&&◌, eqb, ltb, leb, List, [], ◌∷◌, ◌++◌, length, get_or, take, drop, Some, None, Option, sym, refl, ap, ◌∙◌, subst, add-one, arith}
+use Rattle.std.proofs.Common.{◌≡◌, ℕ, zero, suc, ◌+◌, ◌-◌, ◌<◌, ◌≤◌, Bool, true, false, cond, List, [], ◌∷◌, ◌++◌, length, get_or, take, drop, Some, None, Option, sym, refl, ap, ◌∙◌, subst, arith}
 use Rattle.std.proofs.lemmas.Bool.{lt-ltb, ltb-true, le-leb, leb-true, eq-eqb, eqb-true, and_from, and_parts}
-use Rattle.std.proofs.lemmas.List.{append-nil, append_assoc, drop-drop, drop_more, take-append-drop, length-take-le, length-drop, length-append, drop_at, take_at, drop_all, nil_from_length}
-use Rattle.pages.specs.Bytes.{all_bytes, in_bytes, eight, with_length}
+use Rattle.std.proofs.lemmas.List.{append-nil, append_assoc, drop-drop, drop_more, take-append-drop, length-take-le, length-drop, length-append, drop_at, take_at, drop_all}
+use Rattle.pages.specs.Bytes.{all_bytes, eight, with_length}
 use Rattle.records.specs.declared.command.Part.{Part}
 use Rattle.records.specs.Reader.{then, within, number_at, wide, narrow, text, ended, bytes_in}
 use Rattle.pages.proofs.ByteLists.{bytes_drop, bytes_take, length_eight, take_eight, from_eight_eight, eight_from_eight}

@@ -7,7 +7,7 @@ use Rattle.pages.specs.Cells.{Cell, looked_up, written, times, keys}
 use Rattle.pages.specs.Bytes.{eight, all_bytes}
 use Rattle.pages.proofs.Cells.{length_written}
 use Rattle.recurrence.specs.Span.{days_from}
-use Rattle.records.specs.House.{Plain, weight, no, yes, turn}
+use Rattle.records.specs.House.{Plain, weight, yes, turn}
 use Rattle.records.specs.Layout.{Owner, Ghost, person, plain, chain_cells, all_cells, person_record, rec, image}
 use Rattle.records.specs.Does.{record_in, name_in, closing, count_in, refuse, accept, do_join, names_in, join_accepted, new_person}
 use Rattle.records.specs.Promise.{TurnMay}

@@ -1,20 +1,17 @@
 -- The commands with lists of people, and zones.
-use Rattle.std.proofs.Common.{◌≡◌, ℕ, zero, suc, ◌+◌, ◌-◌, ◌*◌, ◌<◌, ◌≤◌, Bool, true, false, cond, ◌&&◌, eqb, ltb, leb, List, [], ◌∷◌, ◌++◌, length, get_or, take, drop, Some, None, Option, sym, refl, ap, ◌∙◌, subst, arith}
+use Rattle.std.proofs.Common.{◌≡◌, ℕ, ◌+◌, ◌<◌, ◌≤◌, Bool, true, false, cond, ◌&&◌, eqb, ltb, List, [], ◌∷◌, ◌++◌, length, drop, Some, None, sym, refl, ap, ◌∙◌, arith}
 use Rattle.std.proofs.lemmas.Bool.{lt-ltb, ltb-true, le-leb, leb-true, and_from, and_parts}
 use Rattle.std.proofs.lemmas.List.{append-nil, append_assoc}
 use Rattle.std.proofs.lemmas.Bool.Decides.{nat_tests}
-use Rattle.pages.specs.Lists.{pick, every}
-use Rattle.pages.specs.Bytes.{all_bytes, eight, with_length}
+use Rattle.pages.specs.Bytes.{all_bytes, eight}
 use Rattle.dates.specs.Zone.{Zone as MeantZone}
-use Rattle.dates.specs.Limits.{a_stretch, a_zone}
+use Rattle.dates.specs.Limits.{a_zone}
 use Rattle.dates.specs.declared.zone.Zone.{Zone}
-use Rattle.recurrence.specs.Event.{rising}
-use Rattle.records.specs.Command.{Command as Meant, zone, busy_times, free, spelled, fits, zone_spelled, numbers, some_people}
-use Rattle.records.specs.declared.command.Part.{Part}
+use Rattle.records.specs.Command.{zone, busy_times, free, spelled, fits, zone_spelled, numbers, some_people}
 use Rattle.records.specs.declared.command.Command.{Command}
 use Rattle.records.specs.declared.command.Command.TheVariants.{SetZone, Busy, Free}
-use Rattle.records.specs.Reader.{then, wide, narrow, row, a_place, stretch, find_zone, find_busy, find_free, meant, zone_of, numbers_in}
-use Rattle.records.proofs.Fields.{Spelt, onto, closed, Back, went, kept, wide_only, wide_back, narrow_only, narrow_back, ended_only, ended_back}
+use Rattle.records.specs.Reader.{a_place, find_zone, find_busy, find_free, zone_of}
+use Rattle.records.proofs.Fields.{Spelt, onto, closed, Back, went, wide_only, wide_back, narrow_only, narrow_back, ended_only, ended_back}
 use Rattle.records.proofs.Lists.{steps, steps_from, steps_rising, steps_every, row_only, row_back}
 use Rattle.records.proofs.Simple.{Good, Found, stretch_only, stretch_of, stretch_back}
 

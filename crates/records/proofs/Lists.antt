@@ -1,13 +1,13 @@
 -- Rising numbers with their count before them.
-use Rattle.std.proofs.Common.{◌≡◌, ℕ, zero, suc, ◌+◌, ◌-◌, ◌*◌, ◌<◌, ◌≤◌, Bool, true, false, cond, ◌&&◌, eqb, ltb, leb, List, [], ◌∷◌, ◌++◌, length, get_or, take, drop, Some, None, Option, sym, refl, ap, ◌∙◌, subst, arith}
+use Rattle.std.proofs.Common.{◌≡◌, ℕ, zero, suc, ◌+◌, ◌*◌, ◌<◌, ◌≤◌, Bool, true, ◌&&◌, leb, List, [], ◌∷◌, ◌++◌, length, drop, Some, Option, sym, refl, ap, ◌∙◌, subst, arith}
 use Rattle.std.proofs.lemmas.Bool.{lt-ltb, ltb-true, le-leb, leb-true, and_from, and_parts}
-use Rattle.std.proofs.lemmas.List.{append-nil, append_assoc, length-drop, length-append}
+use Rattle.std.proofs.lemmas.List.{append_assoc}
 use Rattle.pages.specs.Lists.{every, flat}
-use Rattle.pages.specs.Bytes.{all_bytes, in_bytes, eight}
+use Rattle.pages.specs.Bytes.{all_bytes, eight}
 use Rattle.recurrence.specs.Event.{rising}
 use Rattle.records.specs.Command.{numbers}
 use Rattle.records.specs.declared.command.Part.{Part}
-use Rattle.records.specs.Reader.{then, within, number_at, climbs, row, numbers_from, numbers_in}
+use Rattle.records.specs.Reader.{within, number_at, climbs, row, numbers_from, numbers_in}
 use Rattle.pages.proofs.ByteLists.{length_eight, bytes_append, bytes_eight}
 use Rattle.records.proofs.Fields.{Spelt, onto, went, kept, eight_at, ranged, in_range, room, after, number_back, wide_only, wide_back}
 

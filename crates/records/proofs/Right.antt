@@ -1,7 +1,7 @@
 -- The reader is right: a text is read as a command exactly when it spells it; and no two commands are spelled alike.
-use Rattle.std.proofs.Common.{◌≡◌, ℕ, zero, suc, ◌+◌, ◌-◌, ◌*◌, ◌<◌, ◌≤◌, Bool, true, false, cond, ◌&&◌, eqb, ltb, leb, ◌⊎◌, List, [], ◌∷◌, ◌++◌, length, get_or, take, drop, Some, None, Option, sym, refl, ap, ◌∙◌, subst, inl, inr, arith}
-use Rattle.std.proofs.lemmas.Bool.{lt-ltb, ltb-true, le-leb, leb-true, eqb-true, and_from, and_parts}
-use Rattle.pages.specs.Lists.{every, flat}
+use Rattle.std.proofs.Common.{◌≡◌, ℕ, ◌<◌, ◌≤◌, Bool, true, false, cond, ◌&&◌, eqb, ltb, List, [], ◌∷◌, ◌++◌, length, get_or, Some, None, Option, sym, refl, ap, ◌∙◌, subst, arith}
+use Rattle.std.proofs.lemmas.Bool.{lt-ltb, ltb-true, leb-true, eqb-true, and_from, and_parts}
+use Rattle.pages.specs.Lists.{flat}
 use Rattle.pages.specs.Bytes.{all_bytes, eight, with_length}
 use Rattle.pages.specs.Promise.{Never}
 use Rattle.pages.proofs.ByteLists.{bytes_append, bytes_eight}
@@ -12,11 +12,10 @@ use Rattle.records.specs.Command.{Command as Meant, join, zone, put, change, dro
 use Rattle.records.specs.Promise.{Said, SpelledOnce}
 use Rattle.records.specs.Reads.{Reads}
 use Rattle.records.specs.declared.command.Command.{Command}
-use Rattle.records.specs.Reader.{then, found, found_as, find_join, find_zone, find_put, find_change, find_drop, find_skip, find_list, find_busy, find_free, find_next, find_shown, meant}
-use Rattle.records.proofs.Fields.{went}
+use Rattle.records.specs.Reader.{found, found_as, meant}
 use Rattle.records.proofs.Lists.{bytes_numbers}
 use Rattle.records.proofs.Simple.{Good, Found, join_only, drop_only, skip_only, list_only, next_only, shown_only, join_back, drop_back, skip_back, list_back, next_back, shown_back}
-use Rattle.records.proofs.Listed.{ZoneBounds, zone_bounds, zone_only, busy_only, free_only, zone_back, busy_back, free_back}
+use Rattle.records.proofs.Listed.{zone_bounds, zone_only, busy_only, free_only, zone_back, busy_back, free_back}
 use Rattle.records.proofs.Events.{put_only, change_only, put_back, change_back}
 
 -- what was found under a first byte

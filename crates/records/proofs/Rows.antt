@@ -1,9 +1,9 @@
 -- Rising numbers, one more at a time.
-use Rattle.std.proofs.Common.{◌≡◌, ℕ, zero, suc, ◌+◌, ◌-◌, ◌*◌, ◌<◌, ◌≤◌, Bool, true, false, ◌&&◌, leb, ◌⊎◌, List, [], ◌∷◌, ◌++◌, length, sym, refl, ap, ◌∙◌, inl, inr, arith}
-use Rattle.std.proofs.lemmas.Bool.{le-leb, lt-leb, and_right}
+use Rattle.std.proofs.Common.{◌≡◌, ℕ, suc, ◌+◌, ◌-◌, ◌*◌, ◌<◌, ◌≤◌, true, false, List, arith}
+use Rattle.std.proofs.lemmas.Bool.{le-leb, lt-leb}
 use Rattle.recurrence.specs.Week.{with_day}
 use Rattle.recurrence.specs.declared.event.Weekdays.{Weekdays}
-use Rattle.records.specs.Reader.{climbs, marks, number_at, within}
+use Rattle.records.specs.Reader.{climbs, marks, number_at}
 
 pub climbs_more : (c i lo hi : ℕ) (t : List ℕ) (s : ℕ) → i < c → lo ≤ number_at t (s + 8 * i) → number_at t (s + 8 * i) ≤ hi →
     climbs (c - (i + 1)) (number_at t (s + 8 * i) + 1) hi t (s + 8 * (i + 1)) ≡ climbs (c - i) lo hi t (s + 8 * i)

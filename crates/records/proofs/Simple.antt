@@ -1,5 +1,5 @@
 -- The commands without lists.
-use Rattle.std.proofs.Common.{◌≡◌, ℕ, zero, suc, ◌+◌, ◌-◌, ◌*◌, ◌<◌, ◌≤◌, Bool, true, false, cond, ◌&&◌, eqb, ltb, leb, List, [], ◌∷◌, ◌++◌, length, get_or, take, drop, Some, None, Option, sym, refl, ap, ◌∙◌, arith}
+use Rattle.std.proofs.Common.{◌≡◌, ℕ, ◌+◌, ◌<◌, ◌≤◌, true, List, [], ◌∷◌, ◌++◌, length, drop, Some, Option, sym, refl, ap, ◌∙◌, arith}
 use Rattle.std.proofs.lemmas.Bool.{lt-ltb, ltb-true, le-leb, leb-true, and_from, and_parts}
 use Rattle.std.proofs.lemmas.List.{append-nil, append_assoc}
 use Rattle.std.proofs.lemmas.Bool.Decides.{nat_tests}
@@ -9,7 +9,7 @@ use Rattle.records.specs.Command.{Command as Meant, join, drop_event, skip, list
 use Rattle.records.specs.declared.command.Stretch.{Stretch}
 use Rattle.records.specs.declared.command.Command.{Command}
 use Rattle.records.specs.declared.command.Command.TheVariants.{Join, DropEvent, Skip, Listing, Next, Shown}
-use Rattle.records.specs.Reader.{then, wide, any_number, stretch, find_join, find_drop, find_skip, find_list, find_next, find_shown, meant, bytes_in}
+use Rattle.records.specs.Reader.{wide, any_number, stretch, find_join, find_drop, find_skip, find_list, find_next, find_shown, meant}
 use Rattle.records.proofs.Fields.{Spelt, onto, closed, Back, went, kept, wide_only, wide_back, text_only, text_back, ended_only, ended_back}
 
 -- what is found after a first byte is spelled so, and fits

@@ -1,10 +1,9 @@
 -- Lists written with their count before them.
-use Rattle.std.proofs.Common.{◌≡◌, ℕ, zero, suc, ◌+◌, ◌-◌, ◌*◌, ◌<◌, ◌≤◌, Bool, true, false, List, [], ◌∷◌, ◌++◌, length, get_or, take, drop, sym, refl, ap, ◌∙◌, add-one, arith}
+use Rattle.std.proofs.Common.{◌≡◌, ℕ, zero, suc, ◌+◌, ◌*◌, ◌<◌, ◌≤◌, Bool, true, false, List, [], ◌∷◌, ◌++◌, length, get_or, take, sym, refl, ap, ◌∙◌, add-one, arith}
 use Rattle.std.proofs.lemmas.List.{append_assoc, append-nil, length-append, length-take}
 use Rattle.pages.specs.Lists.{pick, flat}
-use Rattle.pages.specs.Bytes.{eight, with_length, placed}
+use Rattle.pages.specs.Bytes.{eight, with_length}
 use Rattle.pages.proofs.ByteLists.{length_eight}
-use Rattle.pages.proofs.Placed.{more_at}
 use Rattle.recurrence.specs.Week.{places}
 use Rattle.recurrence.specs.Value.{repeat_of, event_with}
 use Rattle.recurrence.specs.declared.event.Event.{Event}

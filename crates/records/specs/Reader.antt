@@ -1,6 +1,6 @@
 -- How commands are read from bytes. A reader takes the text and a place in it, and gives what it found with the place behind it.
 -- Assumes nothing: these are definitions.
-use Rattle.std.specs.Prelude.{◌≡◌, ℕ, zero, suc, ◌+◌, ◌*◌, ◌<◌, ◌≤◌, Bool, true, false, cond, ◌&&◌, List, [], ◌∷◌, ◌++◌, length, take, drop, Some, None, Option, ◌==◌, nat_le, nat_lt, slice_index}
+use Rattle.std.specs.Prelude.{ℕ, zero, suc, ◌+◌, ◌*◌, Bool, true, cond, ◌&&◌, List, [], ◌∷◌, length, take, drop, Some, None, Option, ◌==◌, nat_le, nat_lt, slice_index}
 use Rattle.pages.specs.Bytes.{all_bytes, from_eight}
 use Rattle.dates.specs.Zone.{Zone as MeantZone}
 use Rattle.dates.specs.declared.zone.Zone.{Zone}

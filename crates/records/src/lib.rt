@@ -1,4 +1,6 @@
 // Commands, how they are spelled, and what is kept of people and events.
+#![tactic(auto)]
+
 pub mod command;
 mod field;
 pub mod people;

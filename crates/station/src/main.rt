@@ -1,4 +1,6 @@
 // A house on two files of pages, spoken to in words.
+#![tactic(auto)]
+
 mod bad;
 mod command;
 mod desk;

@@ -1,4 +1,4 @@
-use Rattle.std.proofs.Common.{arith, rules}
+use Rattle.std.proofs.Common.{rules}
 use Rattle.engine.proofs.Steps.{not_long, not_kind, not_out, steps}
 use Rattle.engine.proofs.Whole.{whole_nothing}
 use Rattle.engine.proofs.step.Goals as goal

@@ -1,4 +1,3 @@
-use Rattle.std.proofs.Common.{rules}
 use Rattle.engine.proofs.machine.turn.Goals as goal
 
 pub returns-in-On : goal.returns-in-On

@@ -1,4 +1,4 @@
-use Rattle.std.proofs.Common.{arith, rules}
+use Rattle.std.proofs.Common.{arith}
 use Rattle.pages.specs.Bytes.{in_bytes}
 use Rattle.pages.proofs.bytes.eight_bytes.Goals as goal
 

@@ -1,4 +1,4 @@
-use Rattle.std.proofs.Common.{arith, rules}
+use Rattle.std.proofs.Common.{rules}
 use Rattle.pages.proofs.Over.{eights_more, eights_all}
 use Rattle.pages.proofs.words.put_numbers.Goals as goal
 

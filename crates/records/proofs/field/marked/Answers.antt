@@ -1,5 +1,4 @@
-use Rattle.std.proofs.Common.{◌+◌, ◌-◌, ◌*◌, ap, ◌∙◌, arith, rules}
-use Rattle.records.specs.Reader.{marks}
+use Rattle.std.proofs.Common.{rules}
 use Rattle.records.proofs.Rows.{marks_more, marks_all}
 use Rattle.records.proofs.field.marked.Goals as goal
 

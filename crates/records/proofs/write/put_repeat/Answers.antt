@@ -1,4 +1,4 @@
-use Rattle.std.proofs.Common.{◌≡◌, ◌+◌, ◌≤◌, [], ◌∷◌, length, refl, ap, ◌∙◌, arith}
+use Rattle.std.proofs.Common.{◌+◌, ◌≤◌, [], ◌∷◌, length, refl, ap, ◌∙◌, arith}
 use Rattle.pages.specs.Bytes.{eight, placed}
 use Rattle.pages.proofs.ByteLists.{length_eight}
 use Rattle.pages.proofs.Placed.{Wrote, and_more}

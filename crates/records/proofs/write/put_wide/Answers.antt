@@ -1,5 +1,4 @@
-use Rattle.std.proofs.Common.{ap, ◌∙◌, rules}
-use Rattle.pages.specs.Bytes.{placed}
+use Rattle.std.proofs.Common.{rules}
 use Rattle.records.proofs.write.put_wide.Goals as goal
 
 pub returns : goal.returns

@@ -1,6 +1,6 @@
-use Rattle.std.proofs.Common.{◌≡◌, ℕ, ◌+◌, ◌≤◌, true, List, [], ◌∷◌, ◌++◌, length, Some, sym, refl, ap, ◌∙◌, arith}
+use Rattle.std.proofs.Common.{◌≡◌, true, ◌++◌, length, Some, ap, ◌∙◌, arith}
 use Rattle.std.proofs.lemmas.Bool.{le-leb, and_from}
-use Rattle.pages.specs.Bytes.{eight, with_length, over, placed}
+use Rattle.pages.specs.Bytes.{with_length, over}
 use Rattle.pages.proofs.Placed.{Wrote, and_more, placed_front}
 use Rattle.recurrence.specs.Value.{event_with}
 use Rattle.records.specs.Command.{numbers, event_spelled}

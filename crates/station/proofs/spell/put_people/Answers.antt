@@ -1,4 +1,4 @@
-use Rattle.std.proofs.Common.{[], ◌∷◌, ◌++◌, vec_items, ◌∙◌}
+use Rattle.std.proofs.Common.{[], ◌∷◌, vec_items, ◌∙◌}
 use Rattle.records.specs.Command.{numbers}
 use Rattle.station.proofs.Chain.{more, two_more}
 use Rattle.station.proofs.spell.put_people.Goals as goal

@@ -1,4 +1,4 @@
-use Rattle.std.proofs.Common.{[], ◌∷◌, ◌++◌, vec_items, ◌∙◌}
+use Rattle.std.proofs.Common.{◌∷◌, ◌++◌, vec_items, ◌∙◌}
 use Rattle.pages.specs.Bytes.{eight}
 use Rattle.station.proofs.Chain.{more, two_more}
 use Rattle.station.proofs.spell.put_three.Goals as goal

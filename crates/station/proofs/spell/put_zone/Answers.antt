@@ -1,6 +1,4 @@
-use Rattle.std.proofs.Common.{sym, ap, ◌∙◌, append_assoc}
-use Rattle.records.specs.Command.{numbers}
-use Rattle.pages.specs.Bytes.{with_length}
+use Rattle.std.proofs.Common.{◌∙◌, append_assoc}
 use Rattle.station.proofs.Chain.{more}
 use Rattle.station.proofs.spell.put_zone.Goals as goal
 

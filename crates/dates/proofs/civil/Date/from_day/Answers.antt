@@ -1,4 +1,3 @@
-use Rattle.std.proofs.Common.{arith}
 use Rattle.dates.proofs.Own.{of_parts}
 use Rattle.dates.proofs.civil.Date.from_day.Goals as goal
 

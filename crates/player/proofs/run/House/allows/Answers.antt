@@ -1,6 +1,6 @@
 use Rattle.std.proofs.Common.{◌≡◌, ℕ, Bool, true, false, not, ◌&&◌, ltb, List, [], ◌∷◌, sym, refl, ap, ◌∙◌}
 use Rattle.pages.specs.Lists.{pick}
-use Rattle.pages.specs.Run.{Item, loses, power, power_stops, proper_so, stops, whole}
+use Rattle.pages.specs.Run.{loses, power, power_stops, proper_so, stops, whole}
 use Rattle.player.specs.Items.{item_of}
 use Rattle.player.proofs.run.House.allows.Goals as goal
 
