@@ -3,6 +3,6 @@
 set -eu
 cd "$(dirname "$0")/.."
 mkdir -p target/bench
-rt staticlib dates > target/bench/dates.log 2>&1 || { cat target/bench/dates.log; exit 1; }
+tools/staticlib.sh dates
 rustc -O --edition 2021 -o target/bench/dates bench/dates/main.rs -L native=target/staticlib -l static=dates
 target/bench/dates

@@ -4,7 +4,7 @@
 set -eu
 cd "$(dirname "$0")/.."
 mkdir -p target/bench
-rt staticlib recurrence > target/bench/days.log 2>&1 || { cat target/bench/days.log; exit 1; }
+tools/staticlib.sh recurrence
 rustc -O --edition 2021 -o target/bench/days bench/days/main.rs -L native=target/staticlib -l static=recurrence
 target/bench/days
 if python3 -c 'import dateutil' 2> /dev/null; then

@@ -3,6 +3,6 @@
 set -eu
 cd "$(dirname "$0")/.."
 mkdir -p target/bench
-rt staticlib engine > target/bench/engine.log 2>&1 || { cat target/bench/engine.log; exit 1; }
+tools/staticlib.sh engine
 rustc -O --edition 2021 -o target/bench/step bench/step/main.rs -L native=target/staticlib -l static=engine
 target/bench/step

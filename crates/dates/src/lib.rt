@@ -44,8 +44,7 @@ pub fn date(day: u64) -> Reply
 }
 
 // The same for C: the date as a number, 0 where it is refused.
-#[unsafe(no_mangle)]
-pub extern "C" fn boomdate_date(day: u64) -> u64
+pub fn boomdate_date(day: u64) -> u64
     ensures { result ≡ told (date_reply day) }
 {
     match date(day) {
@@ -55,8 +54,7 @@ pub extern "C" fn boomdate_date(day: u64) -> u64
 }
 
 // The day of a date for C; the largest number where it is none.
-#[unsafe(no_mangle)]
-pub extern "C" fn boomdate_day(year: u64, month: u64, day: u64) -> u64
+pub fn boomdate_day(year: u64, month: u64, day: u64) -> u64
     ensures { result ≡ pick (a_date year month day) (day_of year month day) (2 ^ 64 - 1) }
 {
     match Date::new(year, month, day) {

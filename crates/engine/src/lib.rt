@@ -69,8 +69,7 @@ fn numbered(told: Told) -> u64
 }
 
 // The same step for C, with its answer as one number.
-#[unsafe(no_mangle)]
-pub extern "C" fn boomdate_step(memory: &mut [u64], kind: u64, bytes: &[u8], out: &mut [u8]) -> u64
+pub fn boomdate_step(memory: &mut [u64], kind: u64, bytes: &[u8], out: &mut [u8]) -> u64
     ensures { StepNumbered memory.old kind bytes.now out.old result memory.new out.new }
 {
     numbered(step(memory, kind, bytes, out))

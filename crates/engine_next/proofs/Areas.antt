@@ -4,8 +4,8 @@ use borrow.Rule.Slice.PartMut.{put_mid}
 use Rattle.std.proofs.lemmas.Bool.{cases_lt}
 use Rattle.pages.specs.Bytes.{all_bytes, low_bytes, placed}
 use Rattle.pages.proofs.Parts.{length_placed, low_bytes_same, part_above, part_below, part_same, placed_again, placed_swap, placed_whole}
-use Rattle.engine.specs.Memory.{loaded, words, stored, name_in, with_name, root_in, with_root, head_in, with_head, batch_in, with_batch}
-use Rattle.engine.specs.declared.registers.Registers.{Registers}
+use Rattle.engine_next.specs.Memory.{loaded, words, stored, name_in, with_name, root_in, with_root, head_in, with_head, batch_in, with_batch}
+use Rattle.engine_next.specs.declared.registers.Registers.{Registers}
 
 -- the header's numbers lent and changed
 pub lent_head : (m ys : List ℕ) → length m ≡ 262144 → length ys ≡ length (take 32 (drop 3904 m)) → (put_mid 3904 32 m ys ≡ with_head ys m) × (length (put_mid 3904 32 m ys) ≡ 262144)

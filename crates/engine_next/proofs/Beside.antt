@@ -17,7 +17,7 @@ use Rattle.records.proofs.Edits.{refused_holds, fine_none}
 use Rattle.records.proofs.Images.{new_holds}
 use Rattle.records.proofs.Right.{reads}
 use Rattle.records.proofs.Runs.{all_right}
-use Rattle.engine.specs.OnPages.{outcome, outcome_of, PageMay}
+use Rattle.engine_next.specs.OnPages.{outcome, outcome_of, PageMay}
 
 -- pages that hold a plain house; event numbers grow by at most one with each item that is left
 pub record Beside (n i : ℕ) (ps : List Page) (w : Plain) : Type 0 where

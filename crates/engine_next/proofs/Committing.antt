@@ -18,11 +18,11 @@ use Rattle.pages.specs.declared.journal.Turn.{Turn}
 use Rattle.pages.proofs.Commits.{Batch, Committing}
 use Rattle.pages.proofs.Header.{header_heads, header_a_page}
 use Rattle.pages.proofs.Recovers.{does}
-use Rattle.engine.specs.Memory.{batch_in, head_in, stored}
-use Rattle.engine.specs.Own.{own, a_house, committed, committed_if, told, with_commit}
-use Rattle.engine.specs.declared.registers.Registers.{Registers}
-use Rattle.engine.proofs.Areas.{head_stored}
-use Rattle.engine.proofs.Turns.{act_stored, own_next, phase_part}
+use Rattle.engine_next.specs.Memory.{batch_in, head_in, stored}
+use Rattle.engine_next.specs.Own.{own, a_house, committed, committed_if, told, with_commit}
+use Rattle.engine_next.specs.declared.registers.Registers.{Registers}
+use Rattle.engine_next.proofs.Areas.{head_stored}
+use Rattle.engine_next.proofs.Turns.{act_stored, own_next, phase_part}
 
 pub bit_same : (q : Bool) → eqb (bit q) 1 ≡ q
 bit_same true = refl

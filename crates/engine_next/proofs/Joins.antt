@@ -24,15 +24,15 @@ use Rattle.records.proofs.Holds.{Fine}
 use Rattle.records.proofs.Persons.{names_all}
 use Rattle.records.proofs.Right.{reads}
 use Rattle.records.proofs.Views.{count_is}
-use Rattle.engine.specs.Memory.{batch_in, head_in, loaded, name_in, root_in, stored, with_batch, with_head, with_name, with_root}
-use Rattle.engine.specs.OnPages.{outcome}
-use Rattle.engine.specs.Own.{own, counted, deciding, join_head, joining, looking_from, scanning, smaller, with_join_head, with_new_person, with_new_root}
-use Rattle.engine.specs.Phases.{phase_of}
-use Rattle.engine.specs.declared.registers.Registers.{Registers}
-use Rattle.engine.proofs.Areas.{Ready, batch_back, batch_batch, batch_head, head_back, loaded_stored, long_batch, long_head, long_name, long_root, long_stored, name_back, name_root, name_stored, root_back, root_batch, root_past, root_stored}
-use Rattle.engine.proofs.Beside.{Beside, Inv, beside_step}
-use Rattle.engine.proofs.Running.{Stops, Ends, commit_now, fine_batch, page_there, reads_page, refuse_now, resting}
-use Rattle.engine.proofs.Turns.{house_of, own_page, own_said}
+use Rattle.engine_next.specs.Memory.{batch_in, head_in, loaded, name_in, root_in, stored, with_batch, with_head, with_name, with_root}
+use Rattle.engine_next.specs.OnPages.{outcome}
+use Rattle.engine_next.specs.Own.{own, counted, deciding, join_head, joining, looking_from, scanning, smaller, with_join_head, with_new_person, with_new_root}
+use Rattle.engine_next.specs.Phases.{phase_of}
+use Rattle.engine_next.specs.declared.registers.Registers.{Registers}
+use Rattle.engine_next.proofs.Areas.{Ready, batch_back, batch_batch, batch_head, head_back, loaded_stored, long_batch, long_head, long_name, long_root, long_stored, name_back, name_root, name_stored, root_back, root_batch, root_past, root_stored}
+use Rattle.engine_next.proofs.Beside.{Beside, Inv, beside_step}
+use Rattle.engine_next.proofs.Running.{Stops, Ends, commit_now, fine_batch, page_there, reads_page, refuse_now, resting}
+use Rattle.engine_next.proofs.Turns.{house_of, own_page, own_said}
 
 pub joins_here : (c : Meant) → joins c ≡ true → known_here c ≡ true
 unfolding joins known_here

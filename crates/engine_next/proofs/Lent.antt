@@ -4,7 +4,7 @@ use Rattle.std.proofs.lemmas.List.{append-nil, drop_all, take_at, length-map}
 use Rattle.pages.specs.Bytes.{over}
 use Rattle.pages.specs.Fields.{at}
 use Rattle.records.specs.Does.{names_on, new_person, new_root, put_block}
-use Rattle.engine.specs.Memory.{name_in, root_in, with_batch}
+use Rattle.engine_next.specs.Memory.{name_in, root_in, with_batch}
 
 -- what is put into the front of a row is its front
 pub front_of : (n : ℕ) (w ys : List ℕ) → length w ≡ n → take n (over w ys) ≡ w

@@ -22,14 +22,14 @@ use Rattle.pages.proofs.Stores.{Idling, commit_stop}
 use Rattle.records.specs.Command.{Command as Meant}
 use Rattle.records.specs.Does.{Outcome, refuse}
 use Rattle.records.proofs.Holds.{Fine}
-use Rattle.engine.specs.Memory.{batch_in, head_in, stored, with_head}
-use Rattle.engine.specs.OnPages.{outcome, PageMay}
-use Rattle.engine.specs.Own.{own, page_in, scanning, told}
-use Rattle.engine.specs.Phases.{phase_of}
-use Rattle.engine.specs.declared.registers.Registers.{Registers}
-use Rattle.engine.proofs.Areas.{Ready, batch_head, batch_stored, head_back, head_stored, loaded_stored, long_head, long_stored}
-use Rattle.engine.proofs.Committing.{Prepared, own_committing, commit_starts, committed_all}
-use Rattle.engine.proofs.Turns.{house_of, own_next, own_page}
+use Rattle.engine_next.specs.Memory.{batch_in, head_in, stored, with_head}
+use Rattle.engine_next.specs.OnPages.{outcome, PageMay}
+use Rattle.engine_next.specs.Own.{own, page_in, scanning, told}
+use Rattle.engine_next.specs.Phases.{phase_of}
+use Rattle.engine_next.specs.declared.registers.Registers.{Registers}
+use Rattle.engine_next.proofs.Areas.{Ready, batch_head, batch_stored, head_back, head_stored, loaded_stored, long_head, long_stored}
+use Rattle.engine_next.proofs.Committing.{Prepared, own_committing, commit_starts, committed_all}
+use Rattle.engine_next.proofs.Turns.{house_of, own_next, own_page}
 
 -- a page of a batch, by its address
 looked_index : (b : List Cell) → ((k : ℕ) → tk b k ≤ 1) → (i : ℕ) → i < length b → looked_up b (get_or (keys b) i 0) [] ≡ page_at (contents b) i

@@ -3,13 +3,13 @@ use Rattle.std.proofs.Common.{◌≡◌, ℕ, ◌<◌, ◌≤◌, Bool, true, fa
 use Rattle.std.proofs.lemmas.List.{length-replicate}
 use Rattle.std.proofs.lemmas.Bool.{ne_eqb, eq-eqb, lt-leb, le-leb, and_left, and_right, true≢false, false≢true}
 use Rattle.pages.specs.Run.{Event, Act as MeantAct, read, write, shows, done, refused}
-use Rattle.engine.specs.Acts.{act_of, out_of, told_of}
-use Rattle.engine.specs.Memory.{start_memory}
-use Rattle.engine.specs.Own.{own, step_of, guarded, Outcome}
-use Rattle.engine.specs.Entry.{event_of, ActTold, StepSays, step_fits}
-use Rattle.engine.specs.declared.Told.{Told}
-use Rattle.engine.specs.declared.Told.TheVariants.{No}
-use Rattle.engine.specs.declared.act.Act.{Act}
+use Rattle.engine_next.specs.Acts.{act_of, out_of, told_of}
+use Rattle.engine_next.specs.Memory.{start_memory}
+use Rattle.engine_next.specs.Own.{own, step_of, guarded, Outcome}
+use Rattle.engine_next.specs.Entry.{event_of, ActTold, StepSays, step_fits}
+use Rattle.engine_next.specs.declared.Told.{Told}
+use Rattle.engine_next.specs.declared.Told.TheVariants.{No}
+use Rattle.engine_next.specs.declared.act.Act.{Act}
 
 pub start_length : length start_memory ≡ 262144
 unfolding start_memory

@@ -12,12 +12,12 @@ use Rattle.pages.specs.declared.journal.Part.TheVariants.{Area, FirstSlot as Par
 use Rattle.pages.specs.declared.waking.Stage.{Stage}
 use Rattle.pages.specs.declared.waking.Stage.TheVariants.{FirstHeader, SecondHeader, Mending, Wiping, Marking, Asking, Copying, Heading, FirstSlot, FirstHome, SecondSlot, SecondHome}
 use Rattle.records.specs.Reader.{found}
-use Rattle.engine.specs.Memory.{stored}
-use Rattle.engine.specs.Own.{own, a_house, act_for, next_in, page_in, said_as, step_of}
-use Rattle.engine.specs.Phases.{part_number, phase_of, stage_number}
-use Rattle.engine.specs.declared.phase.Phase.TheVariants.{Committing, Waking}
-use Rattle.engine.specs.declared.registers.Registers.{Registers}
-use Rattle.engine.proofs.Areas.{Ready, batch_stored, head_stored, loaded_stored, long_stored}
+use Rattle.engine_next.specs.Memory.{stored}
+use Rattle.engine_next.specs.Own.{own, a_house, act_for, next_in, page_in, said_as, step_of}
+use Rattle.engine_next.specs.Phases.{part_number, phase_of, stage_number}
+use Rattle.engine_next.specs.declared.phase.Phase.TheVariants.{Committing, Waking}
+use Rattle.engine_next.specs.declared.registers.Registers.{Registers}
+use Rattle.engine_next.proofs.Areas.{Ready, batch_stored, head_stored, loaded_stored, long_stored}
 
 pub house_of : (n : ℕ) → 256 ≤ n → n ≤ 1048576 → a_house n ≡ true
 house_of n l h = and_from _ _ (le-leb 256 n l) (le-leb n 1048576 h)

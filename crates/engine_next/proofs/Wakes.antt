@@ -17,14 +17,14 @@ use Rattle.pages.specs.declared.waking.Move.{Move}
 use Rattle.pages.proofs.Header.{header_again, header_again_page, header_number, heads_number, length_heads, new_a_page, new_marks, new_none}
 use Rattle.pages.proofs.Recovers.{Recovery, Sound, does}
 use Rattle.records.specs.Reader.{found}
-use Rattle.engine.specs.Memory.{start_memory, loaded, stored, head_in, with_head}
-use Rattle.engine.specs.Phases.{stage_number, phase_of}
-use Rattle.engine.specs.Own.{a_house, act_for, own, page_in, next_in, said_as, step_of, woken}
-use Rattle.engine.specs.declared.registers.Registers.{Registers}
-use Rattle.engine.specs.declared.phase.Phase.TheVariants.{Waking}
-use Rattle.engine.proofs.Areas.{Ready, batch_stored, head_again, head_back, head_past, head_stored, loaded_stored, long_head, long_stored, stored_stored}
-use Rattle.engine.proofs.Steps.{start_length}
-use Rattle.engine.proofs.Turns.{act_stored, own_next, own_page, own_step, phase_stage}
+use Rattle.engine_next.specs.Memory.{start_memory, loaded, stored, head_in, with_head}
+use Rattle.engine_next.specs.Phases.{stage_number, phase_of}
+use Rattle.engine_next.specs.Own.{a_house, act_for, own, page_in, next_in, said_as, step_of, woken}
+use Rattle.engine_next.specs.declared.registers.Registers.{Registers}
+use Rattle.engine_next.specs.declared.phase.Phase.TheVariants.{Waking}
+use Rattle.engine_next.proofs.Areas.{Ready, batch_stored, head_again, head_back, head_past, head_stored, loaded_stored, long_head, long_stored, stored_stored}
+use Rattle.engine_next.proofs.Steps.{start_length}
+use Rattle.engine_next.proofs.Turns.{act_stored, own_next, own_page, own_step, phase_stage}
 
 -- THE MEMORY while power comes up: what is awaited, a place, a side, and the header's numbers
 abbrev held : ℕ → ℕ → ℕ → ℕ → Registers

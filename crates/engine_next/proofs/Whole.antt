@@ -15,16 +15,16 @@ use Rattle.records.specs.Promise.{May}
 use Rattle.records.specs.Reader.{found, meant}
 use Rattle.records.specs.declared.command.Command.{Command}
 use Rattle.records.specs.declared.command.Command.TheVariants.{Join, SetZone, Put, Change, DropEvent, Skip, Listing, Busy, Free, Next, Shown}
-use Rattle.engine.specs.OnPages.{outcome, PageMay}
-use Rattle.engine.specs.Own.{own, said_as}
-use Rattle.engine.specs.Promise.{Whole}
-use Rattle.engine.proofs.Areas.{Ready}
-use Rattle.engine.proofs.Beside.{Beside, Inv, inv_ages, inv_keeps, new_beside, new_house, refines}
-use Rattle.engine.proofs.Joins.{join_runs, joins_here}
-use Rattle.engine.proofs.Running.{Stops, Ends, refuse_now}
-use Rattle.engine.proofs.Steadiness.{steady}
-use Rattle.engine.proofs.Turns.{own_said}
-use Rattle.engine.proofs.Wakes.{idle, own_ends, own_ready, own_recovery}
+use Rattle.engine_next.specs.OnPages.{outcome, PageMay}
+use Rattle.engine_next.specs.Own.{own, said_as}
+use Rattle.engine_next.specs.Promise.{Whole}
+use Rattle.engine_next.proofs.Areas.{Ready}
+use Rattle.engine_next.proofs.Beside.{Beside, Inv, inv_ages, inv_keeps, new_beside, new_house, refines}
+use Rattle.engine_next.proofs.Joins.{join_runs, joins_here}
+use Rattle.engine_next.proofs.Running.{Stops, Ends, refuse_now}
+use Rattle.engine_next.proofs.Steadiness.{steady}
+use Rattle.engine_next.proofs.Turns.{own_said}
+use Rattle.engine_next.proofs.Wakes.{idle, own_ends, own_ready, own_recovery}
 
 module _ (n : ℕ) (low : 256 ≤ n) (high : n ≤ 1048576) where
   module _ (i : ℕ) (s : List Page) (inv : Inv n (suc i) s) (t m : List ℕ) (xs ys : List Page) (y : Ready n m) (u : Up n xs ys s) where

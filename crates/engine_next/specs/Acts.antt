@@ -2,12 +2,12 @@
 use Rattle.std.specs.Prelude.{ℕ, ◌+◌, ◌*◌, ◌%◌, List, ◌++◌, length}
 use Rattle.pages.specs.Bytes.{over}
 use Rattle.pages.specs.Run.{Event as MeantEvent, on, said, page, next, Act as MeantAct, read, write, shows, done, refused}
-use Rattle.engine.specs.declared.Told.{Told}
-use Rattle.engine.specs.declared.Told.TheVariants.{Read as ToldRead, Write as ToldWrite, Shows as ToldShows, Done as ToldDone, No}
-use Rattle.engine.specs.declared.act.Event.{Event}
-use Rattle.engine.specs.declared.act.Event.TheVariants.{On, Said, Page, Next}
-use Rattle.engine.specs.declared.act.Act.{Act}
-use Rattle.engine.specs.declared.act.Act.TheVariants.{Read, Write, Shows, Done, Refused}
+use Rattle.engine_next.specs.declared.Told.{Told}
+use Rattle.engine_next.specs.declared.Told.TheVariants.{Read as ToldRead, Write as ToldWrite, Shows as ToldShows, Done as ToldDone, No}
+use Rattle.engine_next.specs.declared.act.Event.{Event}
+use Rattle.engine_next.specs.declared.act.Event.TheVariants.{On, Said, Page, Next}
+use Rattle.engine_next.specs.declared.act.Act.{Act}
+use Rattle.engine_next.specs.declared.act.Act.TheVariants.{Read, Write, Shows, Done, Refused}
 
 -- an event with the bytes beside it
 abbrev pub event_in : Event → List ℕ → MeantEvent

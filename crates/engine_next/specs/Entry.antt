@@ -2,10 +2,10 @@
 use Rattle.std.specs.Prelude.{◌≡◌, ℕ, ◌+◌, ◌*◌, Bool, true, false, ◌&&◌, List, ◌++◌, length, take, drop, ◌==◌, nat_le}
 use Rattle.pages.specs.Lists.{pick}
 use Rattle.pages.specs.Bytes.{from_eight}
-use Rattle.engine.specs.Acts.{told_number}
-use Rattle.engine.specs.Own.{own}
-use Rattle.engine.specs.declared.Told.{Told}
-use Rattle.engine.specs.declared.Told.TheVariants.{Read, Write, Shows, Done, No}
+use Rattle.engine_next.specs.Acts.{told_number}
+use Rattle.engine_next.specs.Own.{own}
+use Rattle.engine_next.specs.declared.Told.{Told}
+use Rattle.engine_next.specs.declared.Told.TheVariants.{Read, Write, Shows, Done, No}
 use Rattle.pages.specs.Run.{Act, Event, done, next, on, page, read, refused, said, shows, write}
 
 -- what the world tells is a kind and some bytes: 0 power, with a number of eight bytes, the highest first; 1 a command; 2 a page; 3 go on

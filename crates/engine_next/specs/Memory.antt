@@ -1,7 +1,7 @@
 -- The machine's memory: registers in front, and areas at fixed places, a byte or a number in each of its numbers. Assumes nothing: these are definitions.
 use Rattle.std.specs.Prelude.{ℕ, ◌+◌, ◌*◌, List, [], ◌∷◌, ◌++◌, take, drop, replicate, slice_index}
 use Rattle.pages.specs.Bytes.{low_bytes, placed}
-use Rattle.engine.specs.declared.registers.Registers.{Registers}
+use Rattle.engine_next.specs.declared.registers.Registers.{Registers}
 
 unfoldable pub start_memory : List ℕ
 start_memory = replicate 262144 0

@@ -24,15 +24,15 @@ use Rattle.records.specs.declared.command.Command.{Command}
 use Rattle.records.specs.declared.command.Command.TheVariants.{Join as JoinCommand, SetZone, Put, Change, DropEvent, Skip, Listing, Busy, Free, Next, Shown}
 use Rattle.records.specs.Reader.{found, bytes_in}
 use Rattle.records.specs.Does.{names_on, new_person, new_root, put_block}
-use Rattle.engine.specs.Acts.{act_of, out_of}
-use Rattle.engine.specs.Memory.{start_memory, loaded, stored, name_in, with_name, root_in, with_root, head_in, with_head, batch_in, with_batch}
-use Rattle.engine.specs.Phases.{stage_number, part_number, phase_of}
-use Rattle.engine.specs.declared.act.Act.{Act as DoneAct}
-use Rattle.engine.specs.declared.registers.Registers.{Registers}
-use Rattle.engine.specs.declared.phase.Join.{Join}
-use Rattle.engine.specs.declared.phase.Join.TheVariants.{Root, Names, People}
-use Rattle.engine.specs.declared.phase.Phase.{Phase}
-use Rattle.engine.specs.declared.phase.Phase.TheVariants.{Idle, Waking, Committing, Joining, Telling}
+use Rattle.engine_next.specs.Acts.{act_of, out_of}
+use Rattle.engine_next.specs.Memory.{start_memory, loaded, stored, name_in, with_name, root_in, with_root, head_in, with_head, batch_in, with_batch}
+use Rattle.engine_next.specs.Phases.{stage_number, part_number, phase_of}
+use Rattle.engine_next.specs.declared.act.Act.{Act as DoneAct}
+use Rattle.engine_next.specs.declared.registers.Registers.{Registers}
+use Rattle.engine_next.specs.declared.phase.Join.{Join}
+use Rattle.engine_next.specs.declared.phase.Join.TheVariants.{Root, Names, People}
+use Rattle.engine_next.specs.declared.phase.Phase.{Phase}
+use Rattle.engine_next.specs.declared.phase.Phase.TheVariants.{Idle, Waking, Committing, Joining, Telling}
 
 abbrev pub a_house : ℕ → Bool
 a_house n = nat_le 256 n && nat_le n 1048576

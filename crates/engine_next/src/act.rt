@@ -1,7 +1,7 @@
 // What the machine is told and what it does, as enums; and the numbers that stand for them outside.
 ghost use Rattle.std.specs.Prelude.{◌≡◌, ◌<◌};
-ghost use Rattle.engine.specs.Acts.{event_in, place_of, told_of};
-ghost use Rattle.engine.specs.Entry.{event_of};
+ghost use Rattle.engine_next.specs.Acts.{event_in, place_of, told_of};
+ghost use Rattle.engine_next.specs.Entry.{event_of};
 
 use crate::Told;
 

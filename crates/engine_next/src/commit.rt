@@ -3,9 +3,9 @@ ghost use Rattle.std.specs.Prelude.{◌≡◌, ℕ, ◌<◌, ◌≤◌, List, le
 ghost use Rattle.pages.specs.Bytes.{eight, over};
 ghost use Rattle.pages.specs.Deeds.{Bounded};
 ghost use Rattle.pages.specs.Journal.{opened, opens};
-ghost use Rattle.engine.specs.Acts.{place_of};
-ghost use Rattle.engine.specs.Memory.{head_in, stored, with_head};
-ghost use Rattle.engine.specs.Own.{Outcome, told, committed, committing_next, committing_page};
+ghost use Rattle.engine_next.specs.Acts.{place_of};
+ghost use Rattle.engine_next.specs.Memory.{head_in, stored, with_head};
+ghost use Rattle.engine_next.specs.Own.{Outcome, told, committed, committing_next, committing_page};
 
 use crate::act::Act;
 use crate::phase::part_number;

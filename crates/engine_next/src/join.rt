@@ -3,9 +3,9 @@ ghost use Rattle.std.specs.Prelude.{◌≡◌, ℕ, suc, ◌+◌, ◌-◌, ◌*�
 ghost use Rattle.pages.specs.Bytes.{placed};
 ghost use Rattle.pages.specs.Fields.{at};
 ghost use Rattle.records.specs.Does.{names_on, new_person, new_root, put_block};
-ghost use Rattle.engine.specs.Acts.{place_of};
-ghost use Rattle.engine.specs.Memory.{head_in, name_in, root_in, with_batch, with_head};
-ghost use Rattle.engine.specs.Own.{Outcome, Quiet, counted, deciding, join_head, join_said, joining_page, looking_from, names_came, people_came, root_came, smaller};
+ghost use Rattle.engine_next.specs.Acts.{place_of};
+ghost use Rattle.engine_next.specs.Memory.{head_in, name_in, root_in, with_batch, with_head};
+ghost use Rattle.engine_next.specs.Own.{Outcome, Quiet, counted, deciding, join_head, join_said, joining_page, looking_from, names_came, people_came, root_came, smaller};
 
 use crate::act::Act;
 use crate::phase::Join;

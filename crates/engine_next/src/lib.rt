@@ -1,9 +1,9 @@
 // The house as a machine: told one thing, it does one act.
 ghost use Rattle.std.specs.Prelude.{◌≡◌};
-ghost use Rattle.engine.specs.Acts.{told_number};
-ghost use Rattle.engine.specs.Entry.{StepSays, StepNumbered, step_fits};
-ghost use Rattle.engine.specs.Own.{own};
-ghost use Rattle.engine.specs.Promise.{Whole};
+ghost use Rattle.engine_next.specs.Acts.{told_number};
+ghost use Rattle.engine_next.specs.Entry.{StepSays, StepNumbered, step_fits};
+ghost use Rattle.engine_next.specs.Own.{own};
+ghost use Rattle.engine_next.specs.Promise.{Whole};
 ghost use Rattle.records.specs.Command.{joins};
 
 mod act;
@@ -12,6 +12,8 @@ mod join;
 mod machine;
 mod phase;
 mod registers;
+#[cfg(test)]
+mod tests;
 mod wake;
 
 use act::{heard, told};
@@ -70,8 +72,7 @@ fn numbered(told: Told) -> u64
 }
 
 // The same step for C, with its answer as one number.
-#[unsafe(no_mangle)]
-pub extern "C" fn boomdate_step(memory: &mut [u64], kind: u64, bytes: &[u8], out: &mut [u8]) -> u64
+pub fn boomdate_step(memory: &mut [u64], kind: u64, bytes: &[u8], out: &mut [u8]) -> u64
     ensures { StepNumbered memory.old kind bytes.now out.old result memory.new out.new }
 {
     numbered(step(memory, kind, bytes, out))

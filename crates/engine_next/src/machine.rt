@@ -1,9 +1,9 @@
 // One turn of the machine, by what it is told. Nothing in its memory is trusted: what is not expected is a fault, and changes nothing.
 ghost use Rattle.std.specs.Prelude.{◌≡◌, ℕ, ◌<◌, ◌≤◌, List, length};
 ghost use Rattle.pages.specs.Device.{a_page};
-ghost use Rattle.engine.specs.Acts.{event_in, place_of};
-ghost use Rattle.engine.specs.Memory.{loaded};
-ghost use Rattle.engine.specs.Own.{Outcome, Quiet, a_house, next_with, on_with, page_with, said_with, step_of};
+ghost use Rattle.engine_next.specs.Acts.{event_in, place_of};
+ghost use Rattle.engine_next.specs.Memory.{loaded};
+ghost use Rattle.engine_next.specs.Own.{Outcome, Quiet, a_house, next_with, on_with, page_with, said_with, step_of};
 
 use crate::act::{Act, Event};
 use crate::commit::{commit_next, commit_page};

@@ -1,6 +1,6 @@
 // What the machine awaits. In its memory a phase is a number.
 ghost use Rattle.std.specs.Prelude.{◌≡◌};
-ghost use Rattle.engine.specs.Phases.{part_number, phase_at, phase_of, stage_number};
+ghost use Rattle.engine_next.specs.Phases.{part_number, phase_at, phase_of, stage_number};
 
 use pages::journal::Part;
 use pages::waking::Stage;

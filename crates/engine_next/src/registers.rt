@@ -1,6 +1,6 @@
 // The machine's registers and the areas of its memory.
 ghost use Rattle.std.specs.Prelude.{◌≡◌, ◌+◌, ◌*◌, ◌<◌, ◌≤◌, length};
-ghost use Rattle.engine.specs.Memory.{batch_in, head_in, loaded, name_in, root_in, stored, with_batch, with_name, with_root};
+ghost use Rattle.engine_next.specs.Memory.{batch_in, head_in, loaded, name_in, root_in, stored, with_batch, with_name, with_root};
 ghost use Rattle.pages.specs.Bytes.{over};
 
 use pages::words::{put_bytes, put_low_bytes};

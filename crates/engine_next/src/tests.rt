@@ -1,5 +1,5 @@
 // A worked week as bytes: each command is read, and each event written back; and what is no command is refused with 1.
-use engine::{Told, step};
+use crate::{Told, step};
 use records::command::{Command, Draft};
 use records::read::read;
 use records::write::write_event;

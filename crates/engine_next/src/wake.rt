@@ -3,9 +3,9 @@ ghost use Rattle.std.specs.Prelude.{◌≡◌, ℕ, ◌<◌, ◌≤◌, List, []
 ghost use Rattle.pages.specs.Bytes.{over};
 ghost use Rattle.pages.specs.Deeds.{Bounded, in_content};
 ghost use Rattle.pages.specs.Waking.{awaits_header, heard_head, hears};
-ghost use Rattle.engine.specs.Acts.{act_of, out_of, place_of};
-ghost use Rattle.engine.specs.Memory.{head_in, with_head};
-ghost use Rattle.engine.specs.Own.{Outcome, act_for, content_of, header_came, recovery_of, waking_next, waking_page, woken};
+ghost use Rattle.engine_next.specs.Acts.{act_of, out_of, place_of};
+ghost use Rattle.engine_next.specs.Memory.{head_in, with_head};
+ghost use Rattle.engine_next.specs.Own.{Outcome, act_for, content_of, header_came, recovery_of, waking_next, waking_page, woken};
 
 use crate::act::Act;
 use crate::phase::stage_number;

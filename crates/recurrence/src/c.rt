@@ -7,8 +7,7 @@ ghost use Rattle.recurrence.specs.Occurrence.{next_occurrence, weekly_event};
 use crate::event::{Event, Kind, Repeat, Weekdays};
 
 // The next occurrence of an event of every so-manieth week on one weekday; the largest number where there is none or it isn't known.
-#[unsafe(no_mangle)]
-pub extern "C" fn boomdate_next_weekly(
+pub fn boomdate_next_weekly(
     first: u64,
     step: u64,
     weekday: u64,

@@ -1,6 +1,6 @@
-use Rattle.engine.specs.Entry.{StepNumbered}
-use Rattle.engine.proofs.boomdate_step.Goals as goal
+use Rattle.engine_next.specs.Entry.{StepNumbered}
+use Rattle.engine_next.proofs.boomdate_step.Goals as goal
 
 pub returns : goal.returns
 unfolding StepNumbered
-returns c = (c.step.result, c.step.ensures.0, c.numbered.ensures)
+returns c = (c.step.result, c.step.ensures.step_says, c.numbered.ensures)

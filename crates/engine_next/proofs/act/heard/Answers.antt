@@ -1,6 +1,6 @@
 use Rattle.std.proofs.Common.{rules}
-use Rattle.engine.specs.Entry.{event_of}
-use Rattle.engine.proofs.act.heard.Goals as goal
+use Rattle.engine_next.specs.Entry.{event_of}
+use Rattle.engine_next.proofs.act.heard.Goals as goal
 
 pub returns-in-0 : goal.returns-in-0
 unfolding event_of

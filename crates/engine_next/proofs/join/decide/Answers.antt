@@ -1,6 +1,6 @@
 use Rattle.std.proofs.Common.{rules}
-use Rattle.engine.specs.Own.{deciding}
-use Rattle.engine.proofs.join.decide.Goals as goal
+use Rattle.engine_next.specs.Own.{deciding}
+use Rattle.engine_next.proofs.join.decide.Goals as goal
 
 pub returns : goal.returns
 unfolding deciding

@@ -1,7 +1,7 @@
 use Rattle.std.proofs.Common.{◌≡◌, ◌-◌, arith}
-use Rattle.engine.specs.Memory.{name_in}
-use Rattle.engine.proofs.Lent.{length_name, name_sought}
-use Rattle.engine.proofs.join.is_taken.Goals as goal
+use Rattle.engine_next.specs.Memory.{name_in}
+use Rattle.engine_next.proofs.Lent.{length_name, name_sought}
+use Rattle.engine_next.proofs.join.is_taken.Goals as goal
 
 pub returns : goal.returns
 returns c =

@@ -1,6 +1,6 @@
 use Rattle.std.proofs.Common.{rules}
-use Rattle.engine.specs.Own.{looking_from}
-use Rattle.engine.proofs.join.look.Goals as goal
+use Rattle.engine_next.specs.Own.{looking_from}
+use Rattle.engine_next.proofs.join.look.Goals as goal
 
 pub returns : goal.returns
 unfolding looking_from

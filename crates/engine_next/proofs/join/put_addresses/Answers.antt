@@ -1,8 +1,8 @@
 use Rattle.std.proofs.Common.{◌+◌, ◌/◌, [], ◌∷◌, ◌∙◌, append_assoc, arith}
 use Rattle.std.proofs.lemmas.List.Edits.{sets-eq}
 use Rattle.pages.specs.Bytes.{placed}
-use Rattle.engine.specs.Own.{join_head}
-use Rattle.engine.proofs.join.put_addresses.Goals as goal
+use Rattle.engine_next.specs.Own.{join_head}
+use Rattle.engine_next.proofs.join.put_addresses.Goals as goal
 
 pub returns : goal.returns
 unfolding join_head placed

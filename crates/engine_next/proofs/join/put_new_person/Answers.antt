@@ -1,7 +1,7 @@
 use Rattle.std.proofs.Common.{◌≡◌, ◌-◌, ◌%◌, arith}
-use Rattle.engine.specs.Memory.{name_in}
-use Rattle.engine.proofs.Lent.{length_name, person_put}
-use Rattle.engine.proofs.join.put_new_person.Goals as goal
+use Rattle.engine_next.specs.Memory.{name_in}
+use Rattle.engine_next.proofs.Lent.{length_name, person_put}
+use Rattle.engine_next.proofs.join.put_new_person.Goals as goal
 
 pub returns : goal.returns
 returns c =

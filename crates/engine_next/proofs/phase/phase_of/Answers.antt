@@ -1,5 +1,5 @@
-use Rattle.engine.specs.Phases.{phase_of}
-use Rattle.engine.proofs.phase.phase_of.Goals as goal
+use Rattle.engine_next.specs.Phases.{phase_of}
+use Rattle.engine_next.proofs.phase.phase_of.Goals as goal
 
 pub returns : goal.returns
 unfolding phase_of

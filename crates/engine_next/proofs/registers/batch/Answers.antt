@@ -1,6 +1,6 @@
 use Rattle.std.proofs.Common.{◌≡◌, ◌+◌, ◌-◌, ◌*◌, arith}
-use Rattle.engine.specs.Memory.{batch_in}
-use Rattle.engine.proofs.registers.batch.Goals as goal
+use Rattle.engine_next.specs.Memory.{batch_in}
+use Rattle.engine_next.proofs.registers.batch.Goals as goal
 
 pub returns : goal.returns
 unfolding batch_in

@@ -1,6 +1,6 @@
 use Rattle.std.proofs.Common.{refl, arith, length-drop, length-take}
-use Rattle.engine.specs.Memory.{head_in}
-use Rattle.engine.proofs.registers.head.Goals as goal
+use Rattle.engine_next.specs.Memory.{head_in}
+use Rattle.engine_next.proofs.registers.head.Goals as goal
 
 pub returns : goal.returns
 unfolding head_in

@@ -1,6 +1,6 @@
 use Rattle.std.proofs.Common.{rules}
-use Rattle.engine.specs.Memory.{loaded}
-use Rattle.engine.proofs.registers.load.Goals as goal
+use Rattle.engine_next.specs.Memory.{loaded}
+use Rattle.engine_next.proofs.registers.load.Goals as goal
 
 pub returns : goal.returns
 unfolding loaded

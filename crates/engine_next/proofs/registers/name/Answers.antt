@@ -1,6 +1,6 @@
 use Rattle.std.proofs.Common.{◌≡◌, ◌+◌, ◌-◌, arith}
-use Rattle.engine.specs.Memory.{name_in}
-use Rattle.engine.proofs.registers.name.Goals as goal
+use Rattle.engine_next.specs.Memory.{name_in}
+use Rattle.engine_next.proofs.registers.name.Goals as goal
 
 pub returns : goal.returns
 unfolding name_in

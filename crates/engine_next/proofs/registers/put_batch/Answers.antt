@@ -1,7 +1,7 @@
 use Rattle.std.proofs.Common.{arith}
 use Rattle.pages.proofs.Parts.{placed_over}
-use Rattle.engine.specs.Memory.{with_batch}
-use Rattle.engine.proofs.registers.put_batch.Goals as goal
+use Rattle.engine_next.specs.Memory.{with_batch}
+use Rattle.engine_next.proofs.registers.put_batch.Goals as goal
 
 pub returns : goal.returns
 unfolding with_batch

@@ -1,5 +1,5 @@
-use Rattle.engine.specs.Memory.{root_in}
-use Rattle.engine.proofs.registers.root.Goals as goal
+use Rattle.engine_next.specs.Memory.{root_in}
+use Rattle.engine_next.proofs.registers.root.Goals as goal
 
 pub returns : goal.returns
 unfolding root_in

@@ -1,7 +1,7 @@
 use Rattle.std.proofs.Common.{arith}
 use Rattle.std.proofs.lemmas.List.Edits.{sets-eq}
-use Rattle.engine.specs.Memory.{stored, words}
-use Rattle.engine.proofs.registers.store.Goals as goal
+use Rattle.engine_next.specs.Memory.{stored, words}
+use Rattle.engine_next.proofs.registers.store.Goals as goal
 
 pub returns : goal.returns
 unfolding stored
