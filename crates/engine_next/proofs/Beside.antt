@@ -1,18 +1,18 @@
 -- The house of logical pages beside the plain house: what the first may do, the second may.
-use Rattle.std.proofs.Common.{◌≡◌, ℕ, zero, suc, ◌+◌, ◌-◌, ◌<◌, ◌≤◌, Bool, true, false, ◌⊎◌, List, [], Some, None, Option, sym, refl, ap, ◌∙◌, subst, inl, inr, arith}
+use Rattle.std.proofs.Common.{◌≡◌, ℕ, suc, ◌+◌, ◌-◌, ◌<◌, ◌≤◌, Bool, true, false, List, [], Some, None, Option, sym, refl, subst, inl, inr, arith}
 use Rattle.pages.specs.Device.{Page, blank}
 use Rattle.pages.specs.Lists.{pick, so_many}
 use Rattle.pages.specs.Cells.{written}
-use Rattle.pages.specs.Frame.{Rule, Refines}
+use Rattle.pages.specs.Frame.{Refines}
 use Rattle.dates.specs.Zone.{no_zone}
 use Rattle.records.specs.Command.{Command as Meant}
-use Rattle.records.specs.House.{Plain, turn}
+use Rattle.records.specs.House.{Plain}
 use Rattle.records.specs.Does.{Outcome, does, known_here, refuse}
 use Rattle.records.specs.Promise.{May, Said}
 use Rattle.records.specs.Reader.{found, meant}
 use Rattle.records.specs.Reads.{Reads}
 use Rattle.records.specs.declared.command.Command.{Command}
-use Rattle.records.proofs.Holds.{Holds, Fine, Result}
+use Rattle.records.proofs.Holds.{Holds, Fine}
 use Rattle.records.proofs.Edits.{refused_holds, fine_none}
 use Rattle.records.proofs.Images.{new_holds}
 use Rattle.records.proofs.Right.{reads}

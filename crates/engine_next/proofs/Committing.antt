@@ -1,9 +1,9 @@
 -- The machine's commit does the acts that the store owes.
-use Rattle.std.proofs.Common.{◌≡◌, ℕ, zero, suc, ◌+◌, ◌<◌, ◌≤◌, Bool, true, false, cond, not, eqb, ltb, List, [], ◌∷◌, length, get_or, Some, None, Option, sym, refl, ap, ◌∙◌, subst, arith}
+use Rattle.std.proofs.Common.{◌≡◌, ℕ, suc, ◌+◌, ◌<◌, ◌≤◌, Bool, true, false, eqb, ltb, List, [], length, get_or, Some, sym, refl, ap, ◌∙◌, arith}
 use Rattle.std.proofs.lemmas.Bool.{eq-eqb, lt-ltb, le-ltb, ltb-true, ltb-false}
 use Rattle.pages.specs.Lists.{bit}
 use Rattle.pages.specs.Cells.{Cell, contents, keys}
-use Rattle.pages.specs.Device.{Page, page_at, a_page}
+use Rattle.pages.specs.Device.{page_at}
 use Rattle.pages.specs.Run.{Step, next, write}
 use Rattle.pages.specs.Store.{Heads, header_page, slot}
 use Rattle.pages.specs.Waking.{home_of}

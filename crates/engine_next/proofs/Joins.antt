@@ -1,10 +1,10 @@
 -- A person joins: the machine's run of that command, from the first read to the number shown.
-use Rattle.std.proofs.Common.{◌≡◌, ℕ, zero, suc, ◌+◌, ◌-◌, ◌*◌, ◌/◌, ◌%◌, ◌<◌, ◌≤◌, Bool, true, false, cond, ◌&&◌, ltb, leb, List, [], ◌∷◌, ◌++◌, length, get_or, take, drop, Some, sym, refl, ap, ◌∙◌, subst, ap₂, add-one, arith, length-drop, length-take}
+use Rattle.std.proofs.Common.{◌≡◌, ℕ, zero, suc, ◌+◌, ◌-◌, ◌*◌, ◌/◌, ◌%◌, ◌<◌, ◌≤◌, Bool, true, false, cond, ◌&&◌, leb, List, [], ◌∷◌, ◌++◌, length, take, drop, Some, sym, refl, ap, ◌∙◌, subst, ap₂, add-one, arith, length-drop, length-take}
 use Rattle.std.proofs.lemmas.List.{drop_at, length-take-le}
 use Rattle.std.proofs.lemmas.Bool.{and_parts, eqb-true, leb-true, leb-false, le-leb, lt-leb, le-ltb, lt-ltb}
-use Rattle.pages.specs.Lists.{pick, or}
+use Rattle.pages.specs.Lists.{or}
 use Rattle.pages.specs.Bytes.{all_bytes, eight, placed}
-use Rattle.pages.specs.Cells.{Cell, contents, keys, written}
+use Rattle.pages.specs.Cells.{Cell, contents, keys}
 use Rattle.pages.specs.Device.{Page, page_at, a_page}
 use Rattle.pages.specs.Fields.{at}
 use Rattle.pages.specs.Run.{Event, page, said, read, refused}
@@ -24,14 +24,14 @@ use Rattle.records.proofs.Holds.{Fine}
 use Rattle.records.proofs.Persons.{names_all}
 use Rattle.records.proofs.Right.{reads}
 use Rattle.records.proofs.Views.{count_is}
-use Rattle.engine_next.specs.Memory.{batch_in, head_in, loaded, name_in, root_in, stored, with_batch, with_head, with_name, with_root}
+use Rattle.engine_next.specs.Memory.{batch_in, head_in, loaded, name_in, root_in, stored, with_batch, with_name, with_root}
 use Rattle.engine_next.specs.OnPages.{outcome}
 use Rattle.engine_next.specs.Own.{own, counted, deciding, join_head, joining, looking_from, scanning, smaller, with_join_head, with_new_person, with_new_root}
 use Rattle.engine_next.specs.Phases.{phase_of}
 use Rattle.engine_next.specs.declared.registers.Registers.{Registers}
 use Rattle.engine_next.proofs.Areas.{Ready, batch_back, batch_batch, batch_head, head_back, loaded_stored, long_batch, long_head, long_name, long_root, long_stored, name_back, name_root, name_stored, root_back, root_batch, root_past, root_stored}
-use Rattle.engine_next.proofs.Beside.{Beside, Inv, beside_step}
-use Rattle.engine_next.proofs.Running.{Stops, Ends, commit_now, fine_batch, page_there, reads_page, refuse_now, resting}
+use Rattle.engine_next.proofs.Beside.{Inv, beside_step}
+use Rattle.engine_next.proofs.Running.{Stops, Ends, commit_now, fine_batch, page_there, reads_page, refuse_now}
 use Rattle.engine_next.proofs.Turns.{house_of, own_page, own_said}
 
 pub joins_here : (c : Meant) → joins c ≡ true → known_here c ≡ true

@@ -1,5 +1,5 @@
 -- Rows that a page of the batch is made of.
-use Rattle.std.proofs.Common.{◌≡◌, ℕ, ◌≤◌, Bool, List, [], ◌∷◌, ◌++◌, length, take, drop, sym, refl, ap, ◌∙◌, arith, length-drop, length-take}
+use Rattle.std.proofs.Common.{◌≡◌, ℕ, ◌≤◌, Bool, List, length, take, drop, ap, ◌∙◌, arith, length-drop, length-take}
 use Rattle.std.proofs.lemmas.List.{append-nil, drop_all, take_at, length-map}
 use Rattle.pages.specs.Bytes.{over}
 use Rattle.pages.specs.Fields.{at}

@@ -1,19 +1,19 @@
 -- A command on the machine: pages read, a refusal, and a batch committed with a number shown after it. Every stop on the way is one of the plain house's.
-use Rattle.std.proofs.Common.{◌≡◌, ℕ, zero, suc, ◌+◌, ◌-◌, ◌*◌, ◌<◌, ◌≤◌, Bool, true, false, not, ◌&&◌, eqb, ltb, leb, ◌⊎◌, List, [], ◌∷◌, ◌++◌, length, get_or, drop, sym, refl, ap, ◌∙◌, subst, inl, inr, arith, length-drop}
+use Rattle.std.proofs.Common.{◌≡◌, ℕ, zero, suc, ◌+◌, ◌-◌, ◌<◌, ◌≤◌, Bool, true, false, not, List, [], ◌∷◌, ◌++◌, length, get_or, drop, sym, refl, ap, ◌∙◌, subst, inl, inr, arith, length-drop}
 use Rattle.std.proofs.lemmas.List.{get_or_append_left}
-use Rattle.std.proofs.lemmas.Bool.{and_from, eq-eqb, ne_eqb, le-leb, lt-ltb}
-use Rattle.pages.specs.Lists.{bit, pick}
+use Rattle.std.proofs.lemmas.Bool.{eq-eqb, ne_eqb, le-leb, lt-ltb}
+use Rattle.pages.specs.Lists.{bit}
 use Rattle.pages.specs.Bytes.{eight}
 use Rattle.pages.specs.Cells.{Cell, contents, keys, looked_up, written}
-use Rattle.pages.specs.Device.{Page, page_at, a_page, two}
+use Rattle.pages.specs.Device.{Page, page_at, a_page}
 use Rattle.pages.specs.Frame.{One}
-use Rattle.pages.specs.Run.{Event, page, next, Ran, ran, on_device, read, refused, shows, done, refusal_end}
+use Rattle.pages.specs.Run.{Event, page, Ran, read, refused, refusal_end}
 use Rattle.pages.specs.Store.{area, Up, Off}
 use Rattle.pages.specs.Journal.{opened}
 use Rattle.pages.proofs.Batch.{apart, keys_long, rest_once, standing}
 use Rattle.pages.proofs.Cells.{tk}
 use Rattle.pages.proofs.Commits.{Batch, commit_batch, up_page}
-use Rattle.pages.proofs.Owing.{Saying, Said, IdleWorld}
+use Rattle.pages.proofs.Owing.{Saying, Said}
 use Rattle.pages.proofs.Recovers.{does}
 use Rattle.pages.proofs.Rules.{reads_0, says, finishes, refuses}
 use Rattle.pages.proofs.Safe.{Crash, Safe}

@@ -35,7 +35,7 @@ use Rattle.records.specs.Does.{new_person, new_root, put_block}
 use Rattle.records.proofs.Persons.{block_placed, length_person}
 use Rattle.engine_next.specs.Memory.{start_memory, loaded, stored, name_in, with_name, root_in, with_root, head_in, with_head, with_batch}
 use Rattle.engine_next.specs.Phases.{stage_number, part_number, phase_of}
-use Rattle.engine_next.specs.Own.{own, fault, with_recovery, with_commit, starting, joining, scanning, counted, join_head, with_new_person, with_new_root, with_join_head, on_with, said_as, said_with, join_said, woken, woken_if, header_came, waking_page, waking_next, told, committed, committed_if, committing_page, committing_next, deciding, looking_from, root_came, names_came, people_came, joining_page, recovery_of, commit_of, page_in, next_in, page_with, next_with, step_of, guarded}
+use Rattle.engine_next.specs.Own.{own, fault, with_recovery, with_commit, starting, joining, scanning, counted, join_head, with_new_person, with_new_root, with_join_head, on_with, said_as, said_with, join_said, woken, woken_if, header_came, waking_page, waking_next, committed, committed_if, committing_page, committing_next, deciding, looking_from, root_came, names_came, people_came, joining_page, recovery_of, commit_of, page_in, next_in, page_with, next_with, step_of, guarded}
 use Rattle.engine_next.specs.declared.registers.Registers.{Registers}
 use Rattle.engine_next.specs.declared.phase.Join.{Join}
 use Rattle.engine_next.specs.declared.phase.Join.TheVariants.{Root, Names, People}

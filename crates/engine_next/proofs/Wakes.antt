@@ -4,25 +4,22 @@ use Rattle.std.proofs.lemmas.List.{ext_get_or}
 use Rattle.std.proofs.lemmas.Bool.{and_from, cond_both, eq-eqb, le-leb, le-ltb, lt-ltb}
 use Rattle.pages.specs.Lists.{bit}
 use Rattle.pages.specs.Device.{Page, zeros, a_page}
-use Rattle.pages.specs.Run.{Event, on, said, page, next, Step, read, write, done}
+use Rattle.pages.specs.Run.{on, page, next, Step, read, write, done}
 use Rattle.pages.specs.Store.{mark, area, count, address, header_page, heads_of}
 use Rattle.pages.specs.Waking.{fresh_head, source_of, chosen, going, wiped_from, copied_from, replayed_from, home_of, homing, brought, awaits_header, steady, page_at, next_at}
-use Rattle.pages.specs.declared.deed.Content.TheVariants.{Blank, Told, Header, Batch}
-use Rattle.pages.specs.declared.deed.Deed.{Deed}
-use Rattle.pages.specs.declared.deed.Deed.TheVariants.{Read, Write, Ready as AllReady}
+use Rattle.pages.specs.declared.deed.Content.TheVariants.{Told}
+use Rattle.pages.specs.declared.deed.Deed.TheVariants.{Write}
 use Rattle.pages.specs.declared.waking.Stage.{Stage}
 use Rattle.pages.specs.declared.waking.Stage.TheVariants.{FirstHeader, SecondHeader, Mending, Wiping, Marking, Asking, Copying, Heading, FirstSlot, FirstHome, SecondSlot, SecondHome}
 use Rattle.pages.specs.declared.waking.Recovery.{Recovery as Stand}
 use Rattle.pages.specs.declared.waking.Move.{Move}
 use Rattle.pages.proofs.Header.{header_again, header_again_page, header_number, heads_number, length_heads, new_a_page, new_marks, new_none}
 use Rattle.pages.proofs.Recovers.{Recovery, Sound, does}
-use Rattle.records.specs.Reader.{found}
 use Rattle.engine_next.specs.Memory.{start_memory, loaded, stored, head_in, with_head}
-use Rattle.engine_next.specs.Phases.{stage_number, phase_of}
-use Rattle.engine_next.specs.Own.{a_house, act_for, own, page_in, next_in, said_as, step_of, woken}
+use Rattle.engine_next.specs.Phases.{stage_number}
+use Rattle.engine_next.specs.Own.{a_house, act_for, own, woken}
 use Rattle.engine_next.specs.declared.registers.Registers.{Registers}
-use Rattle.engine_next.specs.declared.phase.Phase.TheVariants.{Waking}
-use Rattle.engine_next.proofs.Areas.{Ready, batch_stored, head_again, head_back, head_past, head_stored, loaded_stored, long_head, long_stored, stored_stored}
+use Rattle.engine_next.proofs.Areas.{Ready, head_again, head_back, head_past, head_stored, loaded_stored, long_head, long_stored, stored_stored}
 use Rattle.engine_next.proofs.Steps.{start_length}
 use Rattle.engine_next.proofs.Turns.{act_stored, own_next, own_page, own_step, phase_stage}
 

@@ -1,8 +1,8 @@
 -- THE MAIN PROMISE, for the commands that are known.
-use Rattle.std.proofs.Common.{◌≡◌, ℕ, suc, ◌+◌, ◌-◌, ◌≤◌, Bool, true, false, List, [], length, Some, None, Option, sym, refl, ap, ◌∙◌, arith}
+use Rattle.std.proofs.Common.{◌≡◌, ℕ, suc, ◌≤◌, true, false, List, [], length, Some, None, Option, refl, ◌∙◌, arith}
 use Rattle.pages.specs.Device.{Page, blank}
 use Rattle.pages.specs.Run.{said, refused}
-use Rattle.pages.specs.Store.{Up, Off, none, Sheets, new_pages}
+use Rattle.pages.specs.Store.{Up, Off, new_pages}
 use Rattle.pages.proofs.Items.{refined}
 use Rattle.pages.proofs.Owing.{PlainOwed, all_right_with}
 use Rattle.pages.proofs.Recovers.{does}
@@ -10,7 +10,6 @@ use Rattle.pages.proofs.Safe.{Safe}
 use Rattle.pages.proofs.Store.{off_new}
 use Rattle.pages.proofs.Stores.{Idling, store_owed}
 use Rattle.records.specs.Command.{joins}
-use Rattle.records.specs.Does.{refuse}
 use Rattle.records.specs.Promise.{May}
 use Rattle.records.specs.Reader.{found, meant}
 use Rattle.records.specs.declared.command.Command.{Command}

@@ -1,5 +1,5 @@
 -- Events and acts of the code, and what they stand for. Assumes nothing: these are definitions.
-use Rattle.std.specs.Prelude.{ℕ, ◌+◌, ◌*◌, ◌%◌, List, ◌++◌, length}
+use Rattle.std.specs.Prelude.{ℕ, ◌+◌, ◌*◌, ◌%◌, List, length}
 use Rattle.pages.specs.Bytes.{over}
 use Rattle.pages.specs.Run.{Event as MeantEvent, on, said, page, next, Act as MeantAct, read, write, shows, done, refused}
 use Rattle.engine_next.specs.declared.Told.{Told}

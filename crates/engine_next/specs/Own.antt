@@ -1,13 +1,13 @@
 -- THE HOUSE ITSELF, as a machine of 262,144 numbers: what it does for whatever its memory holds and whatever it is told.
 -- Assumes nothing: these are definitions.
-use Rattle.std.specs.Prelude.{◌≡◌, ℕ, suc, ◌+◌, ◌-◌, ◌*◌, ◌/◌, ◌%◌, Bool, true, false, cond, ◌&&◌, List, [], ◌∷◌, length, Some, None, Option, ◌==◌, nat_le, nat_lt}
+use Rattle.std.specs.Prelude.{◌≡◌, ℕ, ◌+◌, ◌-◌, ◌*◌, ◌/◌, ◌%◌, Bool, true, false, cond, ◌&&◌, List, [], ◌∷◌, length, Some, None, Option, ◌==◌, nat_le, nat_lt}
 use Rattle.pages.specs.Lists.{pick}
 use Rattle.pages.specs.Bytes.{eight, placed}
 use Rattle.pages.specs.Device.{zeros, a_page}
 use Rattle.pages.specs.Fields.{at}
 use Rattle.pages.specs.Run.{Engine, Step, Event, on, said, page, next, Act, read, write, shows, done, refused}
 use Rattle.pages.specs.Store.{header_page}
-use Rattle.pages.specs.Waking.{begun, hears, heard_head, awaits_header, page_of, next_of}
+use Rattle.pages.specs.Waking.{hears, heard_head, awaits_header, page_of, next_of}
 use Rattle.pages.specs.Journal.{opens, opened, next_of as commit_next_of}
 use Rattle.pages.specs.declared.deed.Content.{Content}
 use Rattle.pages.specs.declared.deed.Content.TheVariants.{Blank, Told, Header, Batch}

@@ -4,7 +4,6 @@ use Rattle.pages.specs.declared.waking.Stage.{Stage}
 use Rattle.pages.specs.declared.waking.Stage.TheVariants.{FirstHeader, SecondHeader, Mending, Wiping, Marking, Asking, Copying, Heading, FirstSlot, FirstHome, SecondSlot, SecondHome}
 use Rattle.pages.specs.declared.journal.Part.{Part}
 use Rattle.pages.specs.declared.journal.Part.TheVariants.{Area, FirstSlot as PartFirstslot, SecondSlot as PartSecondslot, FirstHead, SecondHead, FirstHome as PartFirsthome, SecondHome as PartSecondhome}
-use Rattle.engine_next.specs.declared.phase.Join.{Join}
 use Rattle.engine_next.specs.declared.phase.Join.TheVariants.{Root, Names, People}
 use Rattle.engine_next.specs.declared.phase.Phase.{Phase}
 use Rattle.engine_next.specs.declared.phase.Phase.TheVariants.{Idle, Waking, Committing, Joining, Telling}

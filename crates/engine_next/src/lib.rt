@@ -1,4 +1,6 @@
 // The house as a machine: told one thing, it does one act.
+#![tactic(auto)]
+
 ghost use Rattle.std.specs.Prelude.{◌≡◌};
 ghost use Rattle.engine_next.specs.Acts.{told_number};
 ghost use Rattle.engine_next.specs.Entry.{StepSays, StepNumbered, step_fits};

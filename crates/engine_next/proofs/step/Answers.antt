@@ -1,4 +1,4 @@
-use Rattle.std.proofs.Common.{arith, rules}
+use Rattle.std.proofs.Common.{rules}
 use Rattle.engine_next.proofs.Steps.{not_long, not_kind, not_out, steps}
 use Rattle.engine_next.proofs.Whole.{whole_joins}
 use Rattle.engine_next.proofs.step.Goals as goal
