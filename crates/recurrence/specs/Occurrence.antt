@@ -7,7 +7,7 @@ use Rattle.recurrence.specs.ByRule.{day_limit, fits, known, next_day}
 use Rattle.recurrence.specs.First.{Next}
 use Rattle.recurrence.specs.Week.{days_of, no_days, with_day}
 
--- a day on which it falls is one of its number of times, left_out days counted too
+-- a day on which it falls is one of its number of times, left-out days counted too
 abbrev pub counts : Event → ℕ → Bool
 counts e d = or (e.repeat.times == 0) (nat_le (so_often e.repeat e.first (d - e.first)) e.repeat.times)
 
@@ -16,7 +16,7 @@ unfoldable pub unless_left_out : Event → (ℕ → Option ℕ) → Option ℕ �
 unless_left_out e go None = None
 unless_left_out e go (Some x) = pick (counts e x) (pick (has e.left_out x) (go (suc x)) (Some x)) None
 
--- the first from d on, which passes over at most so many left_out days
+-- the first from d on, which passes over at most so many left-out days
 unfoldable pub passing : Event → ℕ → ℕ → Option ℕ
 passing e zero d = unless_left_out e (λ _. None) (next_day e.repeat e.first d)
 passing e (suc n) d = unless_left_out e (passing e n) (next_day e.repeat e.first d)
