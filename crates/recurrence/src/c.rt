@@ -7,13 +7,7 @@ ghost use Rattle.recurrence.specs.Occurrence.{next_occurrence, weekly_event};
 use crate::event::{Event, Kind, Repeat, Weekdays};
 
 // The next occurrence of an event of every so-manieth week on one weekday; the largest number where there is none or it isn't known.
-pub fn boomdate_next_weekly(
-    first: u64,
-    step: u64,
-    weekday: u64,
-    last: u64,
-    from: u64,
-) -> u64
+pub fn boomdate_next_weekly(first: u64, step: u64, weekday: u64, last: u64, from: u64) -> u64
     ensures { result ≡ number (answer (known (weekly_event first step weekday last).repeat first from) (next_occurrence (weekly_event first step weekday last) from)) }
 {
     let event = Event {
