@@ -1,7 +1,10 @@
 #!/bin/sh
-# What the station and the board do with files that are missing, too short or unequal. Run after `rt check`: sh tests/files.sh
+# What the station and the board do with files that are missing, too short or unequal: sh tests/files.sh
 set -eu
-bin=$(cd "$(dirname "$0")/.." && pwd)/target/bin
+top=$(cd "$(dirname "$0")/.." && pwd)
+bin=$top/target/bin
+"$top/tools/program.sh" station
+"$top/tools/program.sh" board
 folder=$(mktemp -d)
 trap 'rm -rf "$folder"' EXIT
 cd "$folder"
