@@ -1,7 +1,7 @@
 #!/usr/bin/env python3
 """Spells this repository's own definitions and lemmas in snake case, and its own types in camel case.
 
-usage: tools/respell.py [--check] [TOP]
+usage: python3 tools/respell.py [--check] [TOP]
 
 A name is ours where a file of specs/ or a lemma file of proofs/ says it and no library gives it to that file. Its dashes become underscores;
 where it begins with a capital, it is a type, and its words are put together: date-of is date_of, Dates-right is DatesRight.

@@ -20,7 +20,7 @@ use Rattle.pages.specs.declared.waking.Stage.TheVariants.{FirstHeader, SecondHea
 use Rattle.pages.specs.declared.waking.Recovery.{Recovery}
 use Rattle.pages.specs.declared.waking.Move.{Move}
 use Rattle.pages.specs.declared.journal.Part.{Part}
-use Rattle.pages.specs.declared.journal.Part.TheVariants.{Area, FirstSlot as PartFirstslot, SecondSlot as PartSecondslot, FirstHead, SecondHead, FirstHome as PartFirsthome, SecondHome as PartSecondhome}
+use Rattle.pages.specs.declared.journal.Part.TheVariants.{Area, FirstSlot as PartFirstSlot, SecondSlot as PartSecondSlot, FirstHead, SecondHead, FirstHome as PartFirstHome, SecondHome as PartSecondHome}
 use Rattle.pages.specs.declared.journal.Commit.{Commit}
 use Rattle.pages.specs.declared.journal.Turn.{Turn}
 use Rattle.pages.proofs.ByteLists.{bytes_drop, bytes_take}
@@ -256,16 +256,16 @@ commit_homing_small (Some k) d p i h = h
 
 homes_small : (ws : List ℕ) (i : ℕ) → i ≤ 29 → SmallTurn (homes_from ws i)
 unfolding SmallTurn
-homes_small ws i h = turn_either (ltb i (get_or ws 2 0)) _ _ (λ e. commit_homing_small (home_of ws i) 0 PartFirsthome i h) (omega arith)
+homes_small ws i h = turn_either (ltb i (get_or ws 2 0)) _ _ (λ e. commit_homing_small (home_of ws i) 0 PartFirstHome i h) (omega arith)
 
 commit_at_small : (p : Part) (ws : List ℕ) (i : ℕ) → i < 29 → SmallTurn (commit_next_at p ws i)
 unfolding SmallTurn
-commit_at_small PartFirstslot ws i h = omega arith
-commit_at_small PartSecondslot ws i h = slots_small ws (i + 1) (omega arith)
+commit_at_small PartFirstSlot ws i h = omega arith
+commit_at_small PartSecondSlot ws i h = slots_small ws (i + 1) (omega arith)
 commit_at_small FirstHead ws i h = omega arith
 commit_at_small SecondHead ws i h = homes_small ws 0 (omega arith)
-commit_at_small PartFirsthome ws i h = commit_homing_small (home_of ws i) 1 PartSecondhome i (omega arith)
-commit_at_small PartSecondhome ws i h = homes_small ws (i + 1) (omega arith)
+commit_at_small PartFirstHome ws i h = commit_homing_small (home_of ws i) 1 PartSecondHome i (omega arith)
+commit_at_small PartSecondHome ws i h = homes_small ws (i + 1) (omega arith)
 commit_at_small Area ws i h = tt
 
 commit_small : (c : Commit) (ws : List ℕ) → SmallTurn (commit_next_of c ws)
@@ -367,12 +367,12 @@ module _ (m₀ : List ℕ) where
 
   kept_committing_page : (p : Part) (r : Registers) (bs m : List ℕ) → Fit r → Keeps m₀ m → Keeps m₀ (committing_page p r bs m).memory
   kept_committing_page Area r bs m s h = kept_committed (opens (head_in m) bs).deed (opens (head_in m) bs).commit r (slots_small (opened (head_in m) bs) 0 (omega arith)) s (kept_head (opened_kept bs (head_kept m h)) h)
-  kept_committing_page PartFirstslot r bs m s h = h
-  kept_committing_page PartSecondslot r bs m s h = h
+  kept_committing_page PartFirstSlot r bs m s h = h
+  kept_committing_page PartSecondSlot r bs m s h = h
   kept_committing_page FirstHead r bs m s h = h
   kept_committing_page SecondHead r bs m s h = h
-  kept_committing_page PartFirsthome r bs m s h = h
-  kept_committing_page PartSecondhome r bs m s h = h
+  kept_committing_page PartFirstHome r bs m s h = h
+  kept_committing_page PartSecondHome r bs m s h = h
 
   kept_committing_next : (p : Part) (r : Registers) (m : List ℕ) → Fit r → Keeps m₀ m → Keeps m₀ (committing_next p r m).memory
   kept_committing_next p r m s h = kept_committed_if (commit_next_of (commit_of p r) (head_in m)) r (commit_small (commit_of p r) (head_in m)) s h

@@ -8,7 +8,7 @@ use Rattle.pages.specs.declared.deed.Content.TheVariants.{Blank, Told, Header, B
 use Rattle.pages.specs.declared.deed.Deed.{Deed}
 use Rattle.pages.specs.declared.deed.Deed.TheVariants.{Read, Write, Ready as ReadyDeed}
 use Rattle.pages.specs.declared.journal.Part.{Part}
-use Rattle.pages.specs.declared.journal.Part.TheVariants.{Area, FirstSlot as PartFirstslot, SecondSlot as PartSecondslot, FirstHead, SecondHead, FirstHome as PartFirsthome, SecondHome as PartSecondhome}
+use Rattle.pages.specs.declared.journal.Part.TheVariants.{Area, FirstSlot as PartFirstSlot, SecondSlot as PartSecondSlot, FirstHead, SecondHead, FirstHome as PartFirstHome, SecondHome as PartSecondHome}
 use Rattle.pages.specs.declared.waking.Stage.{Stage}
 use Rattle.pages.specs.declared.waking.Stage.TheVariants.{FirstHeader, SecondHeader, Mending, Wiping, Marking, Asking, Copying, Heading, FirstSlot, FirstHome, SecondSlot, SecondHome}
 use Rattle.records.specs.Reader.{found}
@@ -64,9 +64,9 @@ phase_stage SecondHome = refl
 pub phase_part : (p : Part) → phase_of (part_number p) ≡ Committing p
 unfolding phase_of
 phase_part Area = refl
-phase_part PartFirstslot = refl
-phase_part PartSecondslot = refl
+phase_part PartFirstSlot = refl
+phase_part PartSecondSlot = refl
 phase_part FirstHead = refl
 phase_part SecondHead = refl
-phase_part PartFirsthome = refl
-phase_part PartSecondhome = refl
+phase_part PartFirstHome = refl
+phase_part PartSecondHome = refl
