@@ -5,7 +5,7 @@ use Rattle.std.proofs.lemmas.Bool.{cases_lt, ne_eqb}
 use Rattle.std.proofs.lemmas.Bool.Decides.{nat_tests}
 use Rattle.dates.specs.Calendar.{a_date}
 use Rattle.dates.specs.Text.{two, date_written, clock_written}
-use Rattle.dates.specs.Read.{digit_at, two_at, is_at, date_parts, date_checked, date_read, clock_parts, clock_checked, clock_read, length_parts, length_checked}
+use Rattle.dates.specs.Read.{digit_of, digit_at, two_at, is_at, date_parts, date_checked, date_read, clock_parts, clock_checked, clock_read, length_parts, length_checked}
 use Rattle.dates.specs.Back.{DateReadBack, ClockReadBack, LengthReadBack}
 use Rattle.dates.proofs.Dates.{month_small}
 
@@ -13,7 +13,7 @@ two_is : (n : ℕ) → n < 100 → two n ≡ (48 + n / 10) ∷ (48 + n % 10) ∷
 two_is n h = rw (decimal_digit (n / 10) (omega arith), decimal_digit (n % 10) (omega arith))
 
 digit_is : (t : List ℕ) (k n : ℕ) → k < length t → get_or t k 0 ≡ 48 + n → n < 10 → digit_at t k ≡ Some n
-unfolding digit_at
+unfolding digit_at digit_of
 digit_is t k n h e l = grind (arith, nat_tests)
 
 two_at_is : (t : List ℕ) (k n : ℕ) → k + 1 < length t → get_or t k 0 ≡ 48 + n / 10 → get_or t (k + 1) 0 ≡ 48 + n % 10 → n < 100 → two_at t k ≡ Some n

@@ -1,9 +1,8 @@
 -- The code's dates, and the days and dates of the definitions. Assumes nothing: these are definitions.
-use Rattle.std.specs.Prelude.{◌≡◌, ℕ, ◌≤◌, Bool, ◌&&◌, nat_le}
+use Rattle.std.specs.Prelude.{◌≡◌, ℕ, ◌≤◌, Bool, ◌&&◌, Ok, Err, Result, nat_le}
 use Rattle.dates.specs.Date.{date_of, day_of}
 use Rattle.dates.specs.declared.civil.Date.{Date}
-use Rattle.dates.specs.declared.Reply.{Reply}
-use Rattle.dates.specs.declared.Reply.TheVariants.{Tells, Refused}
+use Rattle.dates.specs.declared.NoSuchDay.{NoSuchDay}
 
 -- which day it is
 abbrev pub number_of : Date → ℕ
@@ -24,9 +23,9 @@ pub record Of (x : Date) (n : ℕ) : Type 0 where
   pub last : n ≤ 73048
 
 -- a reply as one number, for C
-abbrev pub told : Reply → ℕ
-told (Tells n) = n
-told (Refused k) = 0
+abbrev pub told : Result ℕ NoSuchDay → ℕ
+told (Ok n) = n
+told (Err e) = 0
 
 -- a weekday, and which of its month: the first to the fourth, or (5) the last
 abbrev pub an_nth : ℕ → ℕ → Bool

@@ -9,8 +9,15 @@ abbrev pub then : {A B : Type 0} → Option A → (A → Option B) → Option B
 then None f = None
 then (Some a) f = f a
 
+-- a digit by itself, and two of them
+unfoldable pub digit_of : ℕ → Option ℕ
+digit_of b = pick (nat_le 48 b && nat_le b 57) (Some (b - 48)) None
+
+abbrev pub two_of : ℕ → ℕ → Option ℕ
+two_of a b = then (digit_of a) (λ m. then (digit_of b) (λ n. Some (10 * m + n)))
+
 unfoldable pub digit_at : List ℕ → ℕ → Option ℕ
-digit_at t k = pick (nat_lt k (length t) && (nat_le 48 (slice_index t k) && nat_le (slice_index t k) 57)) (Some (slice_index t k - 48)) None
+digit_at t k = pick (nat_lt k (length t)) (digit_of (slice_index t k)) None
 
 abbrev pub two_at : List ℕ → ℕ → Option ℕ
 two_at t k = then (digit_at t k) (λ a. then (digit_at t (k + 1)) (λ b. Some (10 * a + b)))

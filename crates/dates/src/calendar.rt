@@ -31,6 +31,7 @@ fn is_leap(year: u64) -> bool
     year % 4 == 0 && (year % 100 != 0 || year % 400 == 0)
 }
 
+#[tactic(auto, unfolding(crate::specs::Calendar::month_days))]
 pub(crate) fn month_length(year: u64, month: u64) -> u64
     requires { (1 ≤ month) × (month ≤ 12) }
     ensures { result ≡ month_days year month }
@@ -43,10 +44,20 @@ pub(crate) fn month_length(year: u64, month: u64) -> u64
     }
 }
 
-// The year, month and day of a day.
-fn parts(day: u64) -> (u64, u64, u64)
+// The date of a year, month and day that are one.
+#[tactic(auto, using(crate::proofs::Dates::month_small))]
+pub(crate) fn dated(year: u64, month: u64, day: u64) -> Date
+    requires { (In year month day) × (year ≤ 2199) }
+    ensures of { Of result (day_of year month day) }
+    ensures is { Is result year month day }
+{
+    Date { year, month, day }
+}
+
+// The date of a day, where it has one.
+fn day_dated(day: u64) -> Date
     requires { day ≤ 73048 }
-    ensures { (result.0 ≡ (date_of day).year) × (result.1 ≡ (date_of day).month) × (result.2 ≡ (date_of day).day) }
+    ensures { Of result day }
 {
     let since = day + 730_425;
     let in_era = since % 146_097;
@@ -56,57 +67,43 @@ fn parts(day: u64) -> (u64, u64, u64)
     let year = year + 400 * (since / 146_097);
     let day = rest - days_before(month) + 1;
     if month < 10 {
-        (year, month + 3, day)
+        dated(year, month + 3, day)
     } else {
-        (year + 1, month - 9, day)
+        dated(year + 1, month - 9, day)
     }
-}
-
-// The date of a year, month and day that are one.
-pub(crate) fn dated(year: u64, month: u64, day: u64) -> Date
-    requires { (In year month day) × (year ≤ 2199) }
-    ensures of { Of result (day_of year month day) }
-    ensures is { Is result year month day }
-{
-    Date { year, month, day }
 }
 
 impl Date {
     // None where they are no date of the calendar, or not of 2000 to 2199.
+    #[tactic(auto, unfolding(crate::specs::Calendar::a_date))]
     pub fn new(year: u64, month: u64, day: u64) -> Option<Date>
         ensures { MatchOption result (a_date year month day ≡ false) (λ x. (a_date year month day ≡ true) × Is x year month day × Of x (day_of year month day)) }
     {
-        if year < FIRST_YEAR || year > LAST_YEAR || month < 1 || month > 12 {
+        if !(FIRST_YEAR..=LAST_YEAR).contains(&year) || !(1..=12).contains(&month) {
             return None;
         }
-        if day < 1 || day > month_length(year, month) {
-            return None;
-        }
-        Some(dated(year, month, day))
+        (1..=month_length(year, month))
+            .contains(&day)
+            .then(|| dated(year, month, day))
     }
 
     // The date of a day, counted from 1 January 2000.
     pub fn from_day(day: u64) -> Option<Date>
         ensures { MatchOption result (73048 < day) (λ x. Of x day) }
     {
-        if day > LAST_DAY {
-            return None;
-        }
-        let (year, month, day) = parts(day);
-        Some(dated(year, month, day))
+        (day <= LAST_DAY).then(|| day_dated(day))
     }
 
     // How many days after 1 January 2000 it is.
+    #[tactic(auto, using(crate::proofs::Own::of_self), unfolding(crate::specs::Date::day_of))]
     pub fn to_day(self) -> u64
         ensures number { result ≡ number_of self }
         ensures last { result ≤ 73048 }
     {
-        let early = self.month <= 2;
-        let year = if early { self.year - 1 } else { self.year };
-        let month = if early {
-            self.month + 9
+        let (year, month) = if self.month <= 2 {
+            (self.year - 1, self.month + 9)
         } else {
-            self.month - 3
+            (self.year, self.month - 3)
         };
         365 * year + year / 4 - year / 100 + year / 400 + days_before(month) + (self.day - 1)
             - 730_425
@@ -116,15 +113,7 @@ impl Date {
     pub fn next(self) -> Option<Date>
         ensures { MatchOption result (number_of self ≡ 73048) (λ x. Of x (number_of self + 1)) }
     {
-        if self.day < month_length(self.year, self.month) {
-            Some(dated(self.year, self.month, self.day + 1))
-        } else if self.month < 12 {
-            Some(dated(self.year, self.month + 1, 1))
-        } else if self.year < LAST_YEAR {
-            Some(dated(self.year + 1, 1, 1))
-        } else {
-            None
-        }
+        Date::from_day(self.to_day() + 1)
     }
 
     // The first of its month.
@@ -135,6 +124,7 @@ impl Date {
     }
 
     // The months from the year 0 on, so that the next month has the next number.
+    #[tactic(auto, using(crate::proofs::Own::own_months))]
     pub fn months(self) -> u64
         ensures { result ≡ months (number_of self) }
     {
@@ -145,15 +135,7 @@ impl Date {
     pub fn months_on(self, count: u64) -> Option<Date>
         ensures { MatchOption result (a_date (year_after self.year self.month count) (month_after self.month count) self.day ≡ false) (λ x. (months (number_of x) ≡ months (number_of self) + count) × (x.day ≡ self.day)) }
     {
-        if count >= 12 * (LAST_YEAR - FIRST_YEAR + 1) {
-            return None;
-        }
-        let months = self.month - 1 + count;
-        let year = self.year + months / 12;
-        let month = months % 12 + 1;
-        if year > LAST_YEAR || self.day > month_length(year, month) {
-            return None;
-        }
-        Some(dated(year, month, self.day))
+        let months = (self.month - 1).checked_add(count)?;
+        Date::new(self.year + months / 12, months % 12 + 1, self.day)
     }
 }

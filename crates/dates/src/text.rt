@@ -1,67 +1,45 @@
 // Dates, times of day and lengths as text: 2026-03-30, 07:00 and 2:00.
 ghost use Rattle.std.specs.Prelude.{◌≡◌, ◌/◌, ◌%◌, ◌<◌, [], ◌∷◌, ◌++◌, Some, MatchOption};
 ghost use Rattle.dates.specs.Civil.{Of};
-ghost use Rattle.dates.specs.Text.{two, date_written, clock_written, length_written};
+ghost use Rattle.dates.specs.Text.{date_written, clock_written, length_written};
 
 use crate::civil::Date;
 use std::fmt;
-
-// A number below 100 by its two digits.
-#[derive(Clone, Copy)]
-struct Two(u64);
-
-impl fmt::Display for Two {
-    ghost output = { λ n. Some (two n.0) };
-
-    fn fmt<W: fmt::Write>(&self, f: &mut fmt::Formatter<W>) -> fmt::Result {
-        let tens = self.0 / 10;
-        let ones = self.0 % 10;
-        write!(f, "{tens}{ones}")
-    }
-}
 
 impl fmt::Display for Date {
     ghost output = { λ x. Some (date_written x.year x.month x.day) };
 
     fn fmt<W: fmt::Write>(&self, f: &mut fmt::Formatter<W>) -> fmt::Result {
-        let century = Two(self.year / 100);
-        let year = Two(self.year % 100);
-        let month = Two(self.month);
-        let day = Two(self.day);
-        write!(f, "{century}{year}-{month}-{day}")
+        write!(f, "{:04}-{:02}-{:02}", self.year, self.month, self.day)
     }
 }
 
 // The time of day of a time in minutes.
-#[derive(Clone, Copy)]
+#[derive(Clone, Copy, Debug, PartialEq, Eq, PartialOrd, Ord)]
 pub struct Clock(pub u64);
 
 impl fmt::Display for Clock {
     ghost output = { λ t. Some (clock_written t.0) };
 
     fn fmt<W: fmt::Write>(&self, f: &mut fmt::Formatter<W>) -> fmt::Result {
-        let hour = Two(self.0 / 60 % 24);
-        let minute = Two(self.0 % 60);
-        write!(f, "{hour}:{minute}")
+        write!(f, "{:02}:{:02}", self.0 / 60 % 24, self.0 % 60)
     }
 }
 
 // A number of minutes, as hours and minutes.
-#[derive(Clone, Copy)]
+#[derive(Clone, Copy, Debug, PartialEq, Eq, PartialOrd, Ord)]
 pub struct Length(pub u64);
 
 impl fmt::Display for Length {
     ghost output = { λ n. Some (length_written n.0) };
 
     fn fmt<W: fmt::Write>(&self, f: &mut fmt::Formatter<W>) -> fmt::Result {
-        let hours = self.0 / 60;
-        let minutes = Two(self.0 % 60);
-        write!(f, "{hours}:{minutes}")
+        write!(f, "{}:{:02}", self.0 / 60, self.0 % 60)
     }
 }
 
 // A time by its date and the minute of that day.
-#[derive(Clone, Copy)]
+#[derive(Clone, Copy, Debug, PartialEq, Eq, PartialOrd, Ord)]
 pub struct Time {
     pub date: Date,
     pub minute: u64,
@@ -84,8 +62,6 @@ impl fmt::Display for Time {
     ghost output = { λ x. Some (date_written x.date.year x.date.month x.date.day ++ ((32 ∷ []) ++ clock_written x.minute)) };
 
     fn fmt<W: fmt::Write>(&self, f: &mut fmt::Formatter<W>) -> fmt::Result {
-        let date = self.date;
-        let clock = Clock(self.minute);
-        write!(f, "{date} {clock}")
+        write!(f, "{} {}", self.date, Clock(self.minute))
     }
 }

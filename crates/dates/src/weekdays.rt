@@ -1,4 +1,4 @@
-// Weekdays, Monday first: Monday is 0.
+// Weekdays, Monday first: Monday is 0. They stay numbers, as commands spell them.
 ghost use Rattle.std.specs.Prelude.{◌≡◌, ◌+◌, ◌-◌, ◌*◌, ◌≤◌, true, false, MatchOption, ◌==◌, nat_le};
 ghost use Rattle.pages.specs.Lists.{pick};
 ghost use Rattle.dates.specs.Date.{weekday, week, which, is_last, nth_weekday};
@@ -22,6 +22,7 @@ impl Date {
     }
 
     // How many days of its weekday come before it in its month.
+    #[tactic(auto, using(crate::proofs::Own::of_self))]
     pub fn which(self) -> u64
         ensures { result ≡ which (number_of self) }
     {
@@ -29,17 +30,18 @@ impl Date {
     }
 
     // Whether it is the last of its weekday in its month.
+    #[tactic(auto, using(crate::proofs::Own::last_of_weekday))]
     pub fn is_last(self) -> bool
         ensures { result ≡ is_last (number_of self) }
     {
         self.day + 7 > month_length(self.year, self.month)
     }
 
-    // The first to the fourth, or (5) the last, of a weekday in its month.
+    // The first to the fourth, or (5) the last, of a weekday in its month; any numbers, and those that name none have no date.
     pub fn nth_weekday(self, weekday: u64, nth: u64) -> Option<Date>
         ensures { MatchOption result (an_nth weekday nth ≡ false) (λ x. (an_nth weekday nth ≡ true) × Of x (nth_weekday self.year self.month weekday nth) × (x.year ≡ self.year) × (x.month ≡ self.month)) }
     {
-        if weekday > 6 || nth < 1 || nth > 5 {
+        if weekday > 6 || !(1..=5).contains(&nth) {
             return None;
         }
         let first = 1 + (weekday + 7 - self.first_of_month().weekday()) % 7;

@@ -1,13 +1,13 @@
-// A zone by value.
+// A zone by value: numbers as commands and pages spell them, so that any that stand there have a value.
 
 // One Sunday of a month: the first to the fourth, or (5) the last.
-#[derive(Clone, Copy)]
+#[derive(Clone, Copy, Debug, PartialEq, Eq)]
 pub struct Sunday {
     pub month: u8,
     pub week: u8,
 }
 
-#[derive(Clone, Copy)]
+#[derive(Clone, Copy, Debug, PartialEq, Eq)]
 pub struct Zone {
     // Minutes east of Greenwich, and 720 more.
     pub east: u64,

@@ -13,7 +13,20 @@ use Rattle.records.specs.declared.command.Command.{Command}
 use Rattle.records.proofs.Right.{reads}
 use Rattle.engine.specs.Own.{own, start_memory, pages_in, with_pages, a_house, answers, fault, replied, step_of, guarded}
 use Rattle.engine.specs.Promise.{Whole}
-use Rattle.engine.proofs.Steps.{start_length}
+use Rattle.std.proofs.lemmas.List.{length-replicate}
+
+start_length : length start_memory ≡ 262144
+unfolding start_memory
+start_length = length-replicate {A = ℕ} 262144 0
+
+pub own_start : length own.start ≡ 262144
+unfolding own
+own_start = start_length
+
+-- a memory of the machine's own length is not left as it is
+pub own_step : (m : List ℕ) (ev : Event) → length m ≡ 262144 → own.step m ev ≡ step_of m ev
+unfolding own
+own_step m ev l = rw (eq-eqb (length m) 262144 l) refl
 
 -- memory keeps its length, and its numbers stay below 2^64
 small_set : (m : List ℕ) (n : ℕ) → n < 18446744073709551616 → all_small m ≡ true → all_small (set m 0 n) ≡ true

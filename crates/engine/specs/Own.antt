@@ -1,11 +1,9 @@
 -- THE HOUSE ITSELF, as a machine of 262,144 numbers: what it does for whatever its memory holds and whatever it is told.
 -- Assumes nothing: these are definitions.
-use Rattle.std.specs.Prelude.{◌≡◌, ℕ, Bool, cond, ◌&&◌, List, length, replicate, Some, None, Option, ◌==◌, nat_le, slice_index, slice_set}
+use Rattle.std.specs.Prelude.{ℕ, Bool, cond, ◌&&◌, List, length, replicate, Some, None, Option, ◌==◌, nat_le, slice_index, slice_set}
 use Rattle.pages.specs.Run.{Engine, Step, Event, on, said, page, next, Act, done, refused}
 use Rattle.records.specs.declared.command.Command.{Command}
 use Rattle.records.specs.Reader.{found}
-use Rattle.engine.specs.Acts.{act_of, out_of}
-use Rattle.engine.specs.declared.act.Act.{Act as DoneAct}
 
 unfoldable pub start_memory : List ℕ
 start_memory = replicate 262144 0
@@ -49,9 +47,3 @@ guarded m ev = cond (length m == 262144) (step_of m ev) (fault m)
 
 unfoldable pub own : Engine
 own = record { start = start_memory; step = guarded }
-
--- how a function of the code that takes one step leaves its answer, the memory and the lent row
-pub record Outcome (s : Step) (a : DoneAct) (memory₁ out out₁ : List ℕ) : Type 0 where
-  pub memory_is : memory₁ ≡ s.memory
-  pub act_is : a ≡ act_of s.act
-  pub out_is : out₁ ≡ out_of s.act out

@@ -1,8 +1,8 @@
 // A worked week as bytes: each command is read, and each event written back; and what is no command is refused with 1.
-use crate::{Told, step};
-use records::command::{Command, Draft};
+use crate::{MEMORY, ROW, step};
+use records::command::{Command, Draft, Part};
 use records::read::read;
-use records::write::write_event;
+use records::write::{Entry, write_event};
 use std::alloc::{AllocError, Global};
 use std::test::Fail;
 
@@ -50,8 +50,8 @@ struct House {
 
 impl House {
     fn new(heap: Global) -> Result<House, AllocError> {
-        let mut memory = vec![in heap; 0u64; 262144]?;
-        let mut row = vec![in heap; 0u8; 131072]?;
+        let mut memory = vec![in heap; 0u64; MEMORY]?;
+        let mut row = vec![in heap; 0u8; ROW]?;
         let _ = step(
             memory.as_mut_slice(),
             0,
@@ -69,8 +69,8 @@ impl House {
             bytes,
             self.row.as_mut_slice(),
         ) {
-            Told::No(n) => n,
-            _ => 1000,
+            Err(refusal) => u64::from(refusal),
+            Ok(_) => 1000,
         }
     }
 }
@@ -82,29 +82,29 @@ fn bytes_of(heap: Global, hex: &str) -> Result<Vec<u8>, Fail> {
     }
 }
 
-// A number of eight bytes at a place, if they are there.
-fn number_at(bytes: &[u8], at: usize) -> u64 {
-    match bytes.get(at..at.saturating_add(8)) {
-        Some(eight) => pages::bytes::number(eight),
-        None => 0,
+// So many pieces of a width from a place on.
+fn pieces(bytes: &[u8], part: Part, width: usize) -> Result<&[u8], Fail> {
+    let end = part.start.saturating_add(part.count.saturating_mul(width));
+    match bytes.get(part.start..end) {
+        Some(pieces) => Ok(pieces),
+        None => Err(Fail::new("a list past the end")),
     }
 }
 
 // An event written again, from what was read of it.
 fn again(heap: Global, bytes: &[u8], draft: Draft) -> Result<Vec<u8>, Fail> {
     let mut days = Vec::new(heap);
-    for i in 0..draft.left_out.count {
-        days.push(number_at(
-            bytes,
-            draft.left_out.start.saturating_add(i.saturating_mul(8)),
-        ))?;
+    for eight in pieces(bytes, draft.left_out, 8)?.as_chunks::<8>().0 {
+        days.push(u64::from_be_bytes(*eight))?;
     }
-    let start = draft.title.start;
-    let Some(title) = bytes.get(start..start.saturating_add(draft.title.count)) else {
-        return Err(Fail::new("a title past the end"));
-    };
+    let title = pieces(bytes, draft.title, 1)?;
     let mut row = vec![in heap; 0u8; 8386]?;
-    let Some(size) = write_event(row.as_mut_slice(), draft.event, title, days.as_slice()) else {
+    let entry = Entry {
+        event: draft.event,
+        title,
+        left_out: days.as_slice(),
+    };
+    let Some(size) = write_event(row.as_mut_slice(), &entry) else {
         return Err(Fail::new("not written"));
     };
     row.truncate(size);

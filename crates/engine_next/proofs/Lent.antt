@@ -23,10 +23,10 @@ pub over_whole : (w ys : List ℕ) → length ys ≤ length w → over w ys ≡ 
 over_whole w ys h = rw (drop_all (length w) ys h) (append-nil w)
 
 -- the page with the new person, from the rows that it is made of
-pub person_put : (place l j : ℕ) (nm row ys bs page₀ page₁ page m m₁ : List ℕ) → j ≡ l → length nm ≡ l → row ≡ over nm ys → length page₀ ≤ length bs → page₁ ≡ over bs page₀ →
-    page ≡ put_block place (new_person (take j row)) page₁ → m₁ ≡ with_batch 0 page m → m₁ ≡ with_batch 0 (put_block place (new_person nm) bs) m
-person_put place l j nm row ys bs page₀ page₁ page m m₁ q s r h e p b =
-    b ∙ ap (λ x. with_batch 0 x m) (p ∙ rw (e, over_whole bs page₀ h, q, r) (ap (λ x. put_block place (new_person x) bs) (front_of l nm ys s)))
+pub person_put : (place l j : ℕ) (nm row ys bs page m m₁ : List ℕ) → j ≡ l → length nm ≡ l → row ≡ over nm ys →
+    page ≡ put_block place (new_person (take j row)) bs → m₁ ≡ with_batch 0 page m → m₁ ≡ with_batch 0 (put_block place (new_person nm) bs) m
+person_put place l j nm row ys bs page m m₁ q s r p b =
+    b ∙ ap (λ x. with_batch 0 x m) (p ∙ rw (q, r) (ap (λ x. put_block place (new_person x) bs) (front_of l nm ys s)))
 
 pub root_put : (a w : ℕ) (old page₀ page₁ page m m₁ : List ℕ) (k : ℕ) → length page₀ ≤ length old → page₁ ≡ over old page₀ → k ≡ at 16 8 page₁ →
     page ≡ new_root page₁ a w k → m₁ ≡ with_batch 1 page m → m₁ ≡ with_batch 1 (new_root old a w (at 16 8 old)) m

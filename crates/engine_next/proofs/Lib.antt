@@ -1,4 +1,4 @@
-pub mod Steps
+pub mod Start
 pub mod Areas
 pub mod Beside
 pub mod Lent

@@ -9,20 +9,22 @@ use Rattle.pages.specs.Device.{zeros, a_page}
 use Rattle.pages.specs.Fields.{at, fd, pad}
 use Rattle.pages.specs.Run.{Event, on, said, page, next, Step, all_small, Steady}
 use Rattle.pages.specs.Store.{heads_of, area}
+use Rattle.pages.specs.Deeds.{side_number}
 use Rattle.pages.specs.Waking.{fresh_head, chosen, is_second, source_of, brought, hears, wiped_from, copied_from, replayed_from, homing, home_of, page_at, next_at, page_of, next_of, steady as in_range}
 use Rattle.pages.specs.Journal.{opened, opens, slots_from, homes_from, homing as commit_homing, next_at as commit_next_at, next_of as commit_next_of, steady as commit_in_range}
 use Rattle.pages.specs.declared.deed.Deed.{Deed}
 use Rattle.pages.specs.declared.deed.Deed.TheVariants.{Read, Write, Ready}
+use Rattle.pages.specs.declared.side.Side.{Side}
+use Rattle.pages.specs.declared.side.Side.TheVariants.{First, Second}
 use Rattle.pages.specs.declared.heads.Source.{Source}
-use Rattle.pages.specs.declared.heads.Source.TheVariants.{Both, First, Second, Neither}
+use Rattle.pages.specs.declared.heads.Source.TheVariants.{Both, Only, Neither}
+use Rattle.pages.specs.declared.deed.Step.{Step as StoreStep}
 use Rattle.pages.specs.declared.waking.Stage.{Stage}
-use Rattle.pages.specs.declared.waking.Stage.TheVariants.{FirstHeader, SecondHeader, Mending, Wiping, Marking, Asking, Copying, Heading, FirstSlot, FirstHome, SecondSlot, SecondHome}
+use Rattle.pages.specs.declared.waking.Stage.TheVariants.{Header, Mending, Wiping, Marking, Asking, Copying, Heading, Slot, Home}
 use Rattle.pages.specs.declared.waking.Recovery.{Recovery}
-use Rattle.pages.specs.declared.waking.Move.{Move}
 use Rattle.pages.specs.declared.journal.Part.{Part}
-use Rattle.pages.specs.declared.journal.Part.TheVariants.{Area, FirstSlot as PartFirstSlot, SecondSlot as PartSecondSlot, FirstHead, SecondHead, FirstHome as PartFirstHome, SecondHome as PartSecondHome}
+use Rattle.pages.specs.declared.journal.Part.TheVariants.{Area, Slot as PartSlot, Head, Home as PartHome}
 use Rattle.pages.specs.declared.journal.Commit.{Commit}
-use Rattle.pages.specs.declared.journal.Turn.{Turn}
 use Rattle.pages.proofs.ByteLists.{bytes_drop, bytes_take}
 use Rattle.pages.proofs.Fields.{bytes_fields, length_fields, length_zeros}
 use Rattle.pages.proofs.Header.{length_heads, heads_all_small}
@@ -35,13 +37,13 @@ use Rattle.records.specs.Does.{new_person, new_root, put_block}
 use Rattle.records.proofs.Persons.{block_placed, length_person}
 use Rattle.engine_next.specs.Memory.{start_memory, loaded, stored, name_in, with_name, root_in, with_root, head_in, with_head, with_batch}
 use Rattle.engine_next.specs.Phases.{stage_number, part_number, phase_of}
-use Rattle.engine_next.specs.Own.{own, fault, with_recovery, with_commit, starting, joining, scanning, counted, join_head, with_new_person, with_new_root, with_join_head, on_with, said_as, said_with, join_said, woken, woken_if, header_came, waking_page, waking_next, committed, committed_if, committing_page, committing_next, deciding, looking_from, root_came, names_came, people_came, joining_page, recovery_of, commit_of, page_in, next_in, page_with, next_with, step_of, guarded}
+use Rattle.engine_next.specs.Own.{own, fault, is_side, with_recovery, with_commit, starting, joining, scanning, counted, join_head, with_new_person, with_new_root, with_join_head, on_with, said_as, said_with, join_said, woken, woken_if, header_came, waking_page, waking_next, committed, committed_if, committing_page, committing_next, deciding, looking_from, root_came, names_came, people_came, joining_page, recovery_of, commit_of, page_in, next_in, page_with, next_with, step_of, guarded}
 use Rattle.engine_next.specs.declared.registers.Registers.{Registers}
 use Rattle.engine_next.specs.declared.phase.Join.{Join}
 use Rattle.engine_next.specs.declared.phase.Join.TheVariants.{Root, Names, People}
 use Rattle.engine_next.specs.declared.phase.Phase.{Phase}
 use Rattle.engine_next.specs.declared.phase.Phase.TheVariants.{Idle, Waking, Committing, Joining, Telling}
-use Rattle.engine_next.proofs.Steps.{start_length}
+use Rattle.engine_next.proofs.Start.{start_length}
 
 -- SMALL REGISTERS
 record Small (r : Registers) : Type 0 where
@@ -55,6 +57,9 @@ record Small (r : Registers) : Type 0 where
 
 stage_small : (s : Stage) → stage_number s ≤ 12
 stage_small s = grind (arith, nat_tests)
+
+side_small : (s : Side) → side_number s ≤ 1
+side_small s = grind (arith, nat_tests)
 
 part_small : (p : Part) → part_number p ≤ 19
 part_small p = grind (arith, nat_tests)
@@ -139,94 +144,78 @@ unfolding fresh_head
 fresh_kept m = record { long = ap suc (length_zeros 31); small = λ s. small_more 1 (zeros 31) (lit< tt) (bytes_small (zeros 31) (bytes_zeros 31)) }
 
 -- POWER COMES UP
-record SmallRecovery (v : Recovery) : Type 0 where
-  few : v.at ≤ 1048577
-  one : v.side ≤ 1
+recovery_small : (v : Recovery) (r : Registers) → v.at ≤ 1048577 → Small r → Small (with_recovery v r)
+recovery_small v r h s = let n = stage_small v.stage in let d = side_small v.side in search rules
 
-recovery_small : (v : Recovery) (r : Registers) → SmallRecovery v → Small r → Small (with_recovery v r)
-recovery_small v r h s = let n = stage_small v.stage in search rules
+-- of a step, where there is one
+unfoldable SmallRecovery : Option (StoreStep Recovery) → Type 0
+SmallRecovery None = Unit
+SmallRecovery (Some v) = v.state.at ≤ 1048577
 
--- of a move, where there is one
-unfoldable SmallMove : Option Move → Type 0
-SmallMove None = Unit
-SmallMove (Some v) = SmallRecovery v.recovery
+recovery_either : (b : Bool) (x y : StoreStep Recovery) → x.state.at ≤ 1048577 → y.state.at ≤ 1048577 → (cond b x y).state.at ≤ 1048577
+recovery_either true x y h k = h
+recovery_either false x y h k = k
 
-move_either : (b : Bool) (x y : Move) → (b ≡ true → SmallRecovery x.recovery) → (b ≡ false → SmallRecovery y.recovery) → SmallRecovery (cond b x y).recovery
-move_either true x y h k = h refl
-move_either false x y h k = k refl
+recovery_in_range : (b : Bool) (o : Option (StoreStep Recovery)) → (b ≡ true → SmallRecovery o) → SmallRecovery (cond b o None)
+unfolding SmallRecovery
+recovery_in_range true o h = h refl
+recovery_in_range false o h = tt
 
-move_in_range : (b : Bool) (o : Option Move) → (b ≡ true → SmallMove o) → SmallMove (cond b o None)
-unfolding SmallMove
-move_in_range true o h = h refl
-move_in_range false o h = tt
+wiped_small : (k : ℕ) (v : Recovery) → k ≤ 1048577 → (wiped_from k v).state.at ≤ 1048577
+wiped_small k v h = grind (arith, nat_tests)
 
-wiped_small : (k : ℕ) (v : Recovery) → k ≤ 1048577 → SmallRecovery (wiped_from k v).recovery
-wiped_small k v h = record { few = grind (arith, nat_tests); one = grind (arith, nat_tests) }
+copied_small : (d : Side) (k : ℕ) (v : Recovery) → k ≤ 1048577 → (copied_from d k v).state.at ≤ 1048577
+copied_small d k v h = grind (arith, nat_tests)
 
-copied_small : (d k : ℕ) (v : Recovery) → d ≤ 1 → k ≤ 1048577 → SmallRecovery (copied_from d k v).recovery
-copied_small d k v l h = record { few = grind (arith, nat_tests); one = grind (arith, nat_tests) }
+replayed_small : (ws : List ℕ) (i : ℕ) (v : Recovery) → i ≤ 1048577 → (replayed_from ws i v).state.at ≤ 1048577
+replayed_small ws i v h = grind (arith, nat_tests)
 
-replayed_small : (ws : List ℕ) (i : ℕ) (v : Recovery) → i ≤ 1048577 → SmallRecovery (replayed_from ws i v).recovery
-replayed_small ws i v h = record { few = grind (arith, nat_tests); one = grind (arith, nat_tests) }
-
-brought_small : (s : Source) (v : Recovery) → SmallRecovery (brought s v).recovery
-brought_small Both v = record { few = omega arith; one = omega arith }
-brought_small First v = copied_small 0 1 v (omega arith) (omega arith)
-brought_small Second v = copied_small 1 1 v (omega arith) (omega arith)
+brought_small : (s : Source) (v : Recovery) → (brought s v).state.at ≤ 1048577
+brought_small Both v = omega arith
+brought_small (Only d) v = copied_small d 1 v (omega arith)
 brought_small Neither v = wiped_small 1 v (omega arith)
 
-hears_small : (s : Stage) (ws bs : List ℕ) (v : Recovery) → SmallRecovery (hears s ws bs v).recovery
-hears_small s ws bs v = move_either (is_second s) _ _ (λ e. brought_small (source_of ws (heads_of bs)) v) (λ e. record { few = omega arith; one = omega arith })
+hears_small : (s : Stage) (ws bs : List ℕ) (v : Recovery) → (hears s ws bs v).state.at ≤ 1048577
+hears_small s ws bs v = recovery_either (is_second s) _ _ (brought_small (source_of ws (heads_of bs)) v) (omega arith)
 
-homing_small : (o : Option ℕ) (d : ℕ) (s : Stage) (v : Recovery) → v.at ≤ 1048576 → SmallMove (homing o d s v)
-unfolding SmallMove
-homing_small None d s v h = tt
-homing_small (Some k) d s v h = record { few = omega arith; one = omega arith }
+homing_small : (o : Option ℕ) (d : Side) (v : Recovery) → v.at ≤ 1048576 → SmallRecovery (homing o d v)
+unfolding SmallRecovery
+homing_small None d v h = tt
+homing_small (Some k) d v h = omega arith
 
-record Ranged (v : Recovery) : Type 0 where
-  at_most : v.at ≤ 1048576
-  side_most : v.side ≤ 1
+ranged : (v : Recovery) (ws : List ℕ) → in_range v ws ≡ true → v.at ≤ 1048576
+ranged v ws h = leb-true _ _ (and_parts _ _ (and_parts _ _ h).0).1
 
-ranged : (v : Recovery) (ws : List ℕ) → in_range v ws ≡ true → Ranged v
-ranged v ws h =
-    let p = and_parts _ _ (and_parts _ _ h).1 in
-    record { at_most = leb-true _ _ p.0; side_most = leb-true _ _ (and_parts _ _ p.1).0 }
-
-page_at_small : (s : Stage) (ws : List ℕ) (v : Recovery) → Ranged v → SmallMove (page_at s ws v)
-unfolding SmallMove
-page_at_small Asking ws v h = record { few = omega arith; one = h.side_most }
-page_at_small FirstSlot ws v h = homing_small (home_of ws v.at) 0 FirstHome v h.at_most
-page_at_small SecondSlot ws v h = homing_small (home_of ws v.at) 1 SecondHome v h.at_most
-page_at_small FirstHeader ws v h = tt
-page_at_small SecondHeader ws v h = tt
+page_at_small : (s : Stage) (ws : List ℕ) (v : Recovery) → v.at ≤ 1048576 → SmallRecovery (page_at s ws v)
+unfolding SmallRecovery
+page_at_small Asking ws v h = omega arith
+page_at_small (Slot d) ws v h = homing_small (home_of ws v.at) d v h
+page_at_small (Header d) ws v h = tt
 page_at_small Mending ws v h = tt
 page_at_small Wiping ws v h = tt
 page_at_small Marking ws v h = tt
 page_at_small Copying ws v h = tt
 page_at_small Heading ws v h = tt
-page_at_small FirstHome ws v h = tt
-page_at_small SecondHome ws v h = tt
+page_at_small (Home d) ws v h = tt
 
-next_at_small : (s : Stage) (ws : List ℕ) (v : Recovery) → Ranged v → SmallMove (next_at s ws v)
-unfolding SmallMove
+next_at_small : (s : Stage) (ws : List ℕ) (v : Recovery) → v.at ≤ 1048576 → SmallRecovery (next_at s ws v)
+unfolding SmallRecovery
 next_at_small Wiping ws v h = wiped_small (v.at + 1) v (omega arith)
-next_at_small Marking ws v h = copied_small 0 1 v (omega arith) (omega arith)
-next_at_small Copying ws v h = copied_small v.side (v.at + 1) v h.side_most (omega arith)
-next_at_small FirstHome ws v h = record { few = omega arith; one = omega arith }
-next_at_small SecondHome ws v h = replayed_small ws (v.at + 1) v (omega arith)
+next_at_small Marking ws v h = copied_small First 1 v (omega arith)
+next_at_small Copying ws v h = copied_small v.side (v.at + 1) v (omega arith)
+next_at_small (Home First) ws v h = omega arith
+next_at_small (Home Second) ws v h = replayed_small ws (v.at + 1) v (omega arith)
 next_at_small Mending ws v h = replayed_small ws 0 v (omega arith)
 next_at_small Heading ws v h = replayed_small ws 0 v (omega arith)
-next_at_small FirstHeader ws v h = tt
-next_at_small SecondHeader ws v h = tt
+next_at_small (Header d) ws v h = tt
 next_at_small Asking ws v h = tt
-next_at_small FirstSlot ws v h = tt
-next_at_small SecondSlot ws v h = tt
+next_at_small (Slot d) ws v h = tt
 
-page_of_small : (v : Recovery) (ws : List ℕ) → SmallMove (page_of v ws)
-page_of_small v ws = move_in_range (in_range v ws) _ (λ e. page_at_small v.stage ws v (ranged v ws e))
+page_of_small : (v : Recovery) (ws : List ℕ) → SmallRecovery (page_of v ws)
+page_of_small v ws = recovery_in_range (in_range v ws) _ (λ e. page_at_small v.stage ws v (ranged v ws e))
 
-next_of_small : (v : Recovery) (ws : List ℕ) → SmallMove (next_of v ws)
-next_of_small v ws = move_in_range (in_range v ws) _ (λ e. next_at_small v.stage ws v (ranged v ws e))
+next_of_small : (v : Recovery) (ws : List ℕ) → SmallRecovery (next_of v ws)
+next_of_small v ws = recovery_in_range (in_range v ws) _ (λ e. next_at_small v.stage ws v (ranged v ws e))
 
 chosen_kept : {m : List ℕ} (b c : Bool) (ws vs : List ℕ) → Kept m 32 ws → Kept m 32 vs → Kept m 32 (cond b ws (cond c vs fresh_head))
 chosen_kept true c ws vs h k = h
@@ -238,34 +227,34 @@ heard_kept true ws vs h k = chosen_kept (eqb (get_or ws 0 0) 1) (eqb (get_or vs 
 heard_kept false ws vs h k = k
 
 -- A COMMIT
-unfoldable SmallTurn : Option Turn → Type 0
+unfoldable SmallTurn : Option (StoreStep Commit) → Type 0
 SmallTurn None = Unit
-SmallTurn (Some t) = t.commit.at ≤ 29
+SmallTurn (Some t) = t.state.at ≤ 29
 
-turn_either : (b : Bool) (x y : Option Turn) → (b ≡ true → SmallTurn x) → SmallTurn y → SmallTurn (cond b x y)
+turn_either : (b : Bool) (x y : Option (StoreStep Commit)) → (b ≡ true → SmallTurn x) → SmallTurn y → SmallTurn (cond b x y)
 turn_either true x y h k = h refl
 turn_either false x y h k = k
 
-slots_small : (ws : List ℕ) (i : ℕ) → i ≤ 29 → (slots_from ws i).commit.at ≤ 29
+slots_small : (ws : List ℕ) (i : ℕ) → i ≤ 29 → (slots_from ws i).state.at ≤ 29
 slots_small ws i h = grind (arith, nat_tests)
 
-commit_homing_small : (o : Option ℕ) (d : ℕ) (p : Part) (i : ℕ) → i ≤ 29 → SmallTurn (commit_homing o d p i)
+commit_homing_small : (o : Option ℕ) (d : Side) (i : ℕ) → i ≤ 29 → SmallTurn (commit_homing o d i)
 unfolding SmallTurn
-commit_homing_small None d p i h = tt
-commit_homing_small (Some k) d p i h = h
+commit_homing_small None d i h = tt
+commit_homing_small (Some k) d i h = h
 
 homes_small : (ws : List ℕ) (i : ℕ) → i ≤ 29 → SmallTurn (homes_from ws i)
 unfolding SmallTurn
-homes_small ws i h = turn_either (ltb i (get_or ws 2 0)) _ _ (λ e. commit_homing_small (home_of ws i) 0 PartFirstHome i h) (omega arith)
+homes_small ws i h = turn_either (ltb i (get_or ws 2 0)) _ _ (λ e. commit_homing_small (home_of ws i) First i h) (omega arith)
 
 commit_at_small : (p : Part) (ws : List ℕ) (i : ℕ) → i < 29 → SmallTurn (commit_next_at p ws i)
 unfolding SmallTurn
-commit_at_small PartFirstSlot ws i h = omega arith
-commit_at_small PartSecondSlot ws i h = slots_small ws (i + 1) (omega arith)
-commit_at_small FirstHead ws i h = omega arith
-commit_at_small SecondHead ws i h = homes_small ws 0 (omega arith)
-commit_at_small PartFirstHome ws i h = commit_homing_small (home_of ws i) 1 PartSecondHome i (omega arith)
-commit_at_small PartSecondHome ws i h = homes_small ws (i + 1) (omega arith)
+commit_at_small (PartSlot First) ws i h = omega arith
+commit_at_small (PartSlot Second) ws i h = slots_small ws (i + 1) (omega arith)
+commit_at_small (Head First) ws i h = omega arith
+commit_at_small (Head Second) ws i h = homes_small ws 0 (omega arith)
+commit_at_small (PartHome First) ws i h = commit_homing_small (home_of ws i) Second i (omega arith)
+commit_at_small (PartHome Second) ws i h = homes_small ws (i + 1) (omega arith)
 commit_at_small Area ws i h = tt
 
 commit_small : (c : Commit) (ws : List ℕ) → SmallTurn (commit_next_of c ws)
@@ -336,11 +325,11 @@ module _ (m₀ : List ℕ) where
   abbrev Fit : Registers → Type 0
   Fit r = all_small m₀ ≡ true → Small r
 
-  kept_woken : (v : Move) (r : Registers) (bs : List ℕ) {m : List ℕ} → SmallRecovery v.recovery → Fit r → Keeps m₀ m → Keeps m₀ (woken v r bs m).memory
-  kept_woken v r bs l s h = kept_stored _ h (λ a. recovery_small v.recovery r l (s a))
+  kept_woken : (v : StoreStep Recovery) (r : Registers) (bs : List ℕ) {m : List ℕ} → v.state.at ≤ 1048577 → Fit r → Keeps m₀ m → Keeps m₀ (woken v r bs m).memory
+  kept_woken v r bs l s h = kept_stored _ h (λ a. recovery_small v.state r l (s a))
 
-  kept_woken_if : (o : Option Move) (r : Registers) (bs : List ℕ) {m : List ℕ} → SmallMove o → Fit r → Keeps m₀ m → Keeps m₀ (woken_if o r bs m).memory
-  unfolding SmallMove
+  kept_woken_if : (o : Option (StoreStep Recovery)) (r : Registers) (bs : List ℕ) {m : List ℕ} → SmallRecovery o → Fit r → Keeps m₀ m → Keeps m₀ (woken_if o r bs m).memory
+  unfolding SmallRecovery
   kept_woken_if None r bs l s h = h
   kept_woken_if (Some v) r bs l s h = kept_woken v r bs l s h
 
@@ -349,30 +338,30 @@ module _ (m₀ : List ℕ) where
       kept_woken (hears g (head_in m) bs (recovery_of g r)) r bs (hears_small g (head_in m) bs (recovery_of g r)) s
       (kept_head (heard_kept (is_second g) (head_in m) (heads_of bs) (head_kept m h) (heads_kept m₀ bs p)) h)
 
+  kept_came : (g : Stage) (r : Registers) (bs m : List ℕ) → Fit r → Keeps m₀ m → Keeps m₀ (cond (is_side r.side) (woken_if (page_of (recovery_of g r) (head_in m)) r bs m) (fault m)).memory
+  kept_came g r bs m s h = kept_either _ _ _ (λ e. kept_woken_if (page_of (recovery_of g r) (head_in m)) r bs (page_of_small (recovery_of g r) (head_in m)) s h) (λ e. h)
+
   kept_waking_page : (g : Stage) (r : Registers) (bs m : List ℕ) → a_page bs ≡ true → Fit r → Keeps m₀ m → Keeps m₀ (waking_page g r bs m).memory
-  kept_waking_page g r bs m p s h = kept_either _ _ _ (λ e. kept_header g r bs m p s h) (λ e. kept_woken_if (page_of (recovery_of g r) (head_in m)) r bs (page_of_small (recovery_of g r) (head_in m)) s h)
+  kept_waking_page g r bs m p s h = kept_either _ _ _ (λ e. kept_header g r bs m p s h) (λ e. kept_came g r bs m s h)
 
   kept_waking_next : (g : Stage) (r : Registers) (m : List ℕ) → Fit r → Keeps m₀ m → Keeps m₀ (waking_next g r m).memory
-  kept_waking_next g r m s h = kept_woken_if (next_of (recovery_of g r) (head_in m)) r [] (next_of_small (recovery_of g r) (head_in m)) s h
+  kept_waking_next g r m s h = kept_either _ _ _ (λ e. kept_woken_if (next_of (recovery_of g r) (head_in m)) r [] (next_of_small (recovery_of g r) (head_in m)) s h) (λ e. h)
 
   kept_committed : (d : Deed) (c : Commit) (r : Registers) {m : List ℕ} → c.at ≤ 29 → Fit r → Keeps m₀ m → Keeps m₀ (committed d c r m).memory
   kept_committed Ready c r l s h = kept_stored _ h (λ a. scanning_small 23 0 r (lit< tt) (omega arith) (s a))
   kept_committed (Read i k) c r l s h = kept_stored _ h (λ a. registers_committing c r l (s a))
   kept_committed (Write i k x) c r l s h = kept_stored _ h (λ a. registers_committing c r l (s a))
 
-  kept_committed_if : (o : Option Turn) (r : Registers) {m : List ℕ} → SmallTurn o → Fit r → Keeps m₀ m → Keeps m₀ (committed_if o r m).memory
+  kept_committed_if : (o : Option (StoreStep Commit)) (r : Registers) {m : List ℕ} → SmallTurn o → Fit r → Keeps m₀ m → Keeps m₀ (committed_if o r m).memory
   unfolding SmallTurn
   kept_committed_if None r l s h = h
-  kept_committed_if (Some t) r l s h = kept_committed t.deed t.commit r l s h
+  kept_committed_if (Some t) r l s h = kept_committed t.deed t.state r l s h
 
   kept_committing_page : (p : Part) (r : Registers) (bs m : List ℕ) → Fit r → Keeps m₀ m → Keeps m₀ (committing_page p r bs m).memory
-  kept_committing_page Area r bs m s h = kept_committed (opens (head_in m) bs).deed (opens (head_in m) bs).commit r (slots_small (opened (head_in m) bs) 0 (omega arith)) s (kept_head (opened_kept bs (head_kept m h)) h)
-  kept_committing_page PartFirstSlot r bs m s h = h
-  kept_committing_page PartSecondSlot r bs m s h = h
-  kept_committing_page FirstHead r bs m s h = h
-  kept_committing_page SecondHead r bs m s h = h
-  kept_committing_page PartFirstHome r bs m s h = h
-  kept_committing_page PartSecondHome r bs m s h = h
+  kept_committing_page Area r bs m s h = kept_committed (opens (head_in m) bs).deed (opens (head_in m) bs).state r (slots_small (opened (head_in m) bs) 0 (omega arith)) s (kept_head (opened_kept bs (head_kept m h)) h)
+  kept_committing_page (PartSlot d) r bs m s h = h
+  kept_committing_page (Head d) r bs m s h = h
+  kept_committing_page (PartHome d) r bs m s h = h
 
   kept_committing_next : (p : Part) (r : Registers) (m : List ℕ) → Fit r → Keeps m₀ m → Keeps m₀ (committing_next p r m).memory
   kept_committing_next p r m s h = kept_committed_if (commit_next_of (commit_of p r) (head_in m)) r (commit_small (commit_of p r) (head_in m)) s h

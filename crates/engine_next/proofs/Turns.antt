@@ -2,18 +2,21 @@
 use Rattle.std.proofs.Common.{◌≡◌, ℕ, ◌≤◌, true, List, length, refl, ap, ◌∙◌}
 use Rattle.std.proofs.lemmas.Bool.{and_from, eq-eqb, le-leb}
 use Rattle.pages.specs.Device.{Page, a_page}
+use Rattle.pages.specs.Deeds.{side_number}
 use Rattle.pages.specs.Run.{Event, page, next, said, write}
 use Rattle.pages.specs.Store.{header_page}
 use Rattle.pages.specs.declared.deed.Content.TheVariants.{Blank, Told, Header, Batch}
 use Rattle.pages.specs.declared.deed.Deed.{Deed}
 use Rattle.pages.specs.declared.deed.Deed.TheVariants.{Read, Write, Ready as ReadyDeed}
+use Rattle.pages.specs.declared.side.Side.TheVariants.{First, Second}
 use Rattle.pages.specs.declared.journal.Part.{Part}
-use Rattle.pages.specs.declared.journal.Part.TheVariants.{Area, FirstSlot as PartFirstSlot, SecondSlot as PartSecondSlot, FirstHead, SecondHead, FirstHome as PartFirstHome, SecondHome as PartSecondHome}
+use Rattle.pages.specs.declared.journal.Part.TheVariants.{Area, Slot as PartSlot, Head, Home as PartHome}
 use Rattle.pages.specs.declared.waking.Stage.{Stage}
-use Rattle.pages.specs.declared.waking.Stage.TheVariants.{FirstHeader, SecondHeader, Mending, Wiping, Marking, Asking, Copying, Heading, FirstSlot, FirstHome, SecondSlot, SecondHome}
+use Rattle.pages.specs.declared.waking.Stage.TheVariants.{Header as HeaderStage, Mending, Wiping, Marking, Asking, Copying, Heading, Slot, Home}
 use Rattle.records.specs.Reader.{found}
 use Rattle.engine_next.specs.Memory.{stored}
-use Rattle.engine_next.specs.Own.{own, a_house, act_for, next_in, page_in, said_as, step_of}
+use Rattle.engine.specs.Own.{a_house}
+use Rattle.engine_next.specs.Own.{own, act_for, next_in, page_in, said_as, step_of}
 use Rattle.engine_next.specs.Phases.{part_number, phase_of, stage_number}
 use Rattle.engine_next.specs.declared.phase.Phase.TheVariants.{Committing, Waking}
 use Rattle.engine_next.specs.declared.registers.Registers.{Registers}
@@ -41,32 +44,32 @@ pub act_stored : (a : Deed) (x : Page) (r : Registers) (m : List ℕ) → act_fo
 act_stored (Read s k) x r m = refl
 act_stored (Write s k Blank) x r m = refl
 act_stored (Write s k Told) x r m = refl
-act_stored (Write s k Header) x r m = ap (λ w. write s k (header_page w)) (head_stored r m)
-act_stored (Write s k (Batch i)) x r m = ap (write s k) (batch_stored i r m)
+act_stored (Write s k Header) x r m = ap (λ w. write (side_number s) k (header_page w)) (head_stored r m)
+act_stored (Write s k (Batch i)) x r m = ap (write (side_number s) k) (batch_stored i r m)
 act_stored ReadyDeed x r m = refl
 
 -- a phase and its number
 pub phase_stage : (s : Stage) → phase_of (stage_number s) ≡ Waking s
 unfolding phase_of
-phase_stage FirstHeader = refl
-phase_stage SecondHeader = refl
+phase_stage (HeaderStage First) = refl
+phase_stage (HeaderStage Second) = refl
 phase_stage Mending = refl
 phase_stage Wiping = refl
 phase_stage Marking = refl
 phase_stage Asking = refl
 phase_stage Copying = refl
 phase_stage Heading = refl
-phase_stage FirstSlot = refl
-phase_stage FirstHome = refl
-phase_stage SecondSlot = refl
-phase_stage SecondHome = refl
+phase_stage (Slot First) = refl
+phase_stage (Slot Second) = refl
+phase_stage (Home First) = refl
+phase_stage (Home Second) = refl
 
 pub phase_part : (p : Part) → phase_of (part_number p) ≡ Committing p
 unfolding phase_of
 phase_part Area = refl
-phase_part PartFirstSlot = refl
-phase_part PartSecondSlot = refl
-phase_part FirstHead = refl
-phase_part SecondHead = refl
-phase_part PartFirstHome = refl
-phase_part PartSecondHome = refl
+phase_part (PartSlot First) = refl
+phase_part (PartSlot Second) = refl
+phase_part (Head First) = refl
+phase_part (Head Second) = refl
+phase_part (PartHome First) = refl
+phase_part (PartHome Second) = refl

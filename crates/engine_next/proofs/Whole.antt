@@ -16,7 +16,7 @@ use Rattle.records.specs.declared.command.Command.{Command}
 use Rattle.records.specs.declared.command.Command.TheVariants.{Join, SetZone, Put, Change, DropEvent, Skip, Listing, Busy, Free, Next, Shown}
 use Rattle.engine_next.specs.OnPages.{outcome, PageMay}
 use Rattle.engine_next.specs.Own.{own, said_as}
-use Rattle.engine_next.specs.Promise.{Whole}
+use Rattle.engine.specs.Promise.{Whole}
 use Rattle.engine_next.proofs.Areas.{Ready}
 use Rattle.engine_next.proofs.Beside.{Beside, Inv, inv_ages, inv_keeps, new_beside, new_house, refines}
 use Rattle.engine_next.proofs.Joins.{join_runs, joins_here}

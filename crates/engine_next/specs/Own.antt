@@ -1,41 +1,39 @@
 -- THE HOUSE ITSELF, as a machine of 262,144 numbers: what it does for whatever its memory holds and whatever it is told.
 -- Assumes nothing: these are definitions.
-use Rattle.std.specs.Prelude.{◌≡◌, ℕ, ◌+◌, ◌-◌, ◌*◌, ◌/◌, ◌%◌, Bool, true, false, cond, ◌&&◌, List, [], ◌∷◌, length, Some, None, Option, ◌==◌, nat_le, nat_lt}
+use Rattle.std.specs.Prelude.{◌≡◌, ℕ, ◌+◌, ◌-◌, ◌*◌, ◌/◌, ◌%◌, Bool, true, false, cond, ◌&&◌, List, [], ◌∷◌, length, Some, None, Option, Result, ◌==◌, nat_le, nat_lt}
 use Rattle.pages.specs.Lists.{pick}
 use Rattle.pages.specs.Bytes.{eight, placed}
 use Rattle.pages.specs.Device.{zeros, a_page}
 use Rattle.pages.specs.Fields.{at}
 use Rattle.pages.specs.Run.{Engine, Step, Event, on, said, page, next, Act, read, write, shows, done, refused}
 use Rattle.pages.specs.Store.{header_page}
+use Rattle.pages.specs.Deeds.{side_number}
 use Rattle.pages.specs.Waking.{hears, heard_head, awaits_header, page_of, next_of}
 use Rattle.pages.specs.Journal.{opens, opened, next_of as commit_next_of}
+use Rattle.pages.specs.declared.side.Side.{Side}
+use Rattle.pages.specs.declared.side.Side.TheVariants.{First, Second}
 use Rattle.pages.specs.declared.deed.Content.{Content}
 use Rattle.pages.specs.declared.deed.Content.TheVariants.{Blank, Told, Header, Batch}
 use Rattle.pages.specs.declared.deed.Deed.{Deed}
+use Rattle.pages.specs.declared.deed.Step.{Step as StoreStep}
 use Rattle.pages.specs.declared.deed.Deed.TheVariants.{Read, Write, Ready}
 use Rattle.pages.specs.declared.waking.Stage.{Stage}
 use Rattle.pages.specs.declared.waking.Recovery.{Recovery}
-use Rattle.pages.specs.declared.waking.Move.{Move}
 use Rattle.pages.specs.declared.journal.Part.{Part}
-use Rattle.pages.specs.declared.journal.Part.TheVariants.{Area, FirstSlot, SecondSlot, FirstHead, SecondHead, FirstHome, SecondHome}
+use Rattle.pages.specs.declared.journal.Part.TheVariants.{Area, Slot, Head, Home}
 use Rattle.pages.specs.declared.journal.Commit.{Commit}
-use Rattle.pages.specs.declared.journal.Turn.{Turn}
 use Rattle.records.specs.declared.command.Command.{Command}
 use Rattle.records.specs.declared.command.Command.TheVariants.{Join as JoinCommand, SetZone, Put, Change, DropEvent, Skip, Listing, Busy, Free, Next, Shown}
 use Rattle.records.specs.Reader.{found, bytes_in}
 use Rattle.records.specs.Does.{names_on, new_person, new_root, put_block}
-use Rattle.engine_next.specs.Acts.{act_of, out_of}
+use Rattle.engine.specs.Own.{a_house}
 use Rattle.engine_next.specs.Memory.{start_memory, loaded, stored, name_in, with_name, root_in, with_root, head_in, with_head, batch_in, with_batch}
 use Rattle.engine_next.specs.Phases.{stage_number, part_number, phase_of}
-use Rattle.engine_next.specs.declared.act.Act.{Act as DoneAct}
 use Rattle.engine_next.specs.declared.registers.Registers.{Registers}
 use Rattle.engine_next.specs.declared.phase.Join.{Join}
 use Rattle.engine_next.specs.declared.phase.Join.TheVariants.{Root, Names, People}
 use Rattle.engine_next.specs.declared.phase.Phase.{Phase}
 use Rattle.engine_next.specs.declared.phase.Phase.TheVariants.{Idle, Waking, Committing, Joining, Telling}
-
-abbrev pub a_house : ℕ → Bool
-a_house n = nat_le 256 n && nat_le n 1048576
 
 abbrev pub answers : Act → List ℕ → Step
 answers a m = record { memory = m; act = a }
@@ -52,21 +50,28 @@ content_of Header bs m = header_page (head_in m)
 content_of (Batch i) bs m = batch_in i m
 
 abbrev pub act_for : Deed → List ℕ → List ℕ → Act
-act_for (Read s k) bs m = read s k
-act_for (Write s k c) bs m = write s k (content_of c bs m)
+act_for (Read s k) bs m = read (side_number s) k
+act_for (Write s k c) bs m = write (side_number s) k (content_of c bs m)
 act_for Ready bs m = done
 
 -- POWER COMES UP
+-- the side that a register tells of: only 0 and 1 are sides, and where a header is heard the register does not matter
+abbrev pub is_side : ℕ → Bool
+is_side n = nat_le n 1
+
+abbrev pub side_at : ℕ → Side
+side_at n = cond (n == 1) Second First
+
 abbrev pub recovery_of : Stage → Registers → Recovery
-recovery_of s r = record { stage = s; pages = r.pages; at = r.at; side = r.side }
+recovery_of s r = record { stage = s; pages = r.pages; at = r.at; side = side_at r.side }
 
 abbrev pub with_recovery : Recovery → Registers → Registers
-with_recovery v r = record { phase = stage_number v.stage; pages = r.pages; at = v.at; side = v.side; long = r.long; people = r.people; weight = r.weight }
+with_recovery v r = record { phase = stage_number v.stage; pages = r.pages; at = v.at; side = side_number v.side; long = r.long; people = r.people; weight = r.weight }
 
-abbrev pub woken : Move → Registers → List ℕ → List ℕ → Step
-woken v r bs m = answers (act_for v.deed bs m) (stored (with_recovery v.recovery r) m)
+abbrev pub woken : StoreStep Recovery → Registers → List ℕ → List ℕ → Step
+woken v r bs m = answers (act_for v.deed bs m) (stored (with_recovery v.state r) m)
 
-abbrev pub woken_if : Option Move → Registers → List ℕ → List ℕ → Step
+abbrev pub woken_if : Option (StoreStep Recovery) → Registers → List ℕ → List ℕ → Step
 woken_if None r bs m = fault m
 woken_if (Some v) r bs m = woken v r bs m
 
@@ -74,10 +79,10 @@ abbrev pub header_came : Stage → Registers → List ℕ → List ℕ → Step
 header_came s r bs m = woken (hears s (head_in m) bs (recovery_of s r)) r bs (with_head (heard_head s (head_in m) bs) m)
 
 abbrev pub waking_page : Stage → Registers → List ℕ → List ℕ → Step
-waking_page s r bs m = cond (awaits_header s) (header_came s r bs m) (woken_if (page_of (recovery_of s r) (head_in m)) r bs m)
+waking_page s r bs m = cond (awaits_header s) (header_came s r bs m) (cond (is_side r.side) (woken_if (page_of (recovery_of s r) (head_in m)) r bs m) (fault m))
 
 abbrev pub waking_next : Stage → Registers → List ℕ → Step
-waking_next s r m = woken_if (next_of (recovery_of s r) (head_in m)) r [] m
+waking_next s r m = cond (is_side r.side) (woken_if (next_of (recovery_of s r) (head_in m)) r [] m) (fault m)
 
 -- in another phase, from one page or slot on
 abbrev pub scanning : ℕ → ℕ → Registers → Registers
@@ -98,21 +103,18 @@ committed Ready c r m = told r m
 committed (Read s k) c r m = answers (act_for (Read s k) [] m) (stored (with_commit c r) m)
 committed (Write s k x) c r m = answers (act_for (Write s k x) [] m) (stored (with_commit c r) m)
 
-abbrev pub committed_if : Option Turn → Registers → List ℕ → Step
+abbrev pub committed_if : Option (StoreStep Commit) → Registers → List ℕ → Step
 committed_if None r m = fault m
-committed_if (Some t) r m = committed t.deed t.commit r m
+committed_if (Some t) r m = committed t.deed t.state r m
 
 abbrev pub area_came : Registers → List ℕ → List ℕ → Step
-area_came r bs m = committed (opens (head_in m) bs).deed (opens (head_in m) bs).commit r (with_head (opened (head_in m) bs) m)
+area_came r bs m = committed (opens (head_in m) bs).deed (opens (head_in m) bs).state r (with_head (opened (head_in m) bs) m)
 
 abbrev pub committing_page : Part → Registers → List ℕ → List ℕ → Step
 committing_page Area r bs m = area_came r bs m
-committing_page FirstSlot r bs m = fault m
-committing_page SecondSlot r bs m = fault m
-committing_page FirstHead r bs m = fault m
-committing_page SecondHead r bs m = fault m
-committing_page FirstHome r bs m = fault m
-committing_page SecondHome r bs m = fault m
+committing_page (Slot s) r bs m = fault m
+committing_page (Head s) r bs m = fault m
+committing_page (Home s) r bs m = fault m
 
 abbrev pub committing_next : Part → Registers → List ℕ → Step
 committing_next p r m = committed_if (commit_next_of (commit_of p r) (head_in m)) r m
@@ -230,23 +232,3 @@ guarded m ev = cond (length m == 262144) (step_of m ev) (fault m)
 
 unfoldable pub own : Engine
 own = record { start = start_memory; step = guarded }
-
--- an act that leaves the lent row as it is
-abbrev pub quiet : Act → Bool
-quiet (read s k) = true
-quiet (write s k p) = false
-quiet (shows row) = false
-quiet done = true
-quiet (refused k) = true
-
--- how a function of the code that takes one quiet step leaves its answer and the memory
-pub record Quiet (s : Step) (a : DoneAct) (memory₁ : List ℕ) : Type 0 where
-  pub memory_is : memory₁ ≡ s.memory
-  pub act_is : a ≡ act_of s.act
-  pub still : quiet s.act ≡ true
-
--- how a function of the code that takes one step leaves its answer, the memory and the lent row
-pub record Outcome (s : Step) (a : DoneAct) (memory₁ out out₁ : List ℕ) : Type 0 where
-  pub memory_is : memory₁ ≡ s.memory
-  pub act_is : a ≡ act_of s.act
-  pub out_is : out₁ ≡ out_of s.act out

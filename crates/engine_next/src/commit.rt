@@ -3,102 +3,93 @@ ghost use Rattle.std.specs.Prelude.{◌≡◌, ℕ, ◌<◌, ◌≤◌, List, le
 ghost use Rattle.pages.specs.Bytes.{eight, over};
 ghost use Rattle.pages.specs.Deeds.{Bounded};
 ghost use Rattle.pages.specs.Journal.{opened, opens};
-ghost use Rattle.engine_next.specs.Acts.{place_of};
+ghost use Rattle.engine.specs.Acts.{Outcome};
 ghost use Rattle.engine_next.specs.Memory.{head_in, stored, with_head};
-ghost use Rattle.engine_next.specs.Own.{Outcome, told, committed, committing_next, committing_page};
+ghost use Rattle.engine_next.specs.Own.{told, committed, committing_next, committing_page};
 
-use crate::act::Act;
-use crate::phase::part_number;
-use crate::registers::{Registers, head, store};
+use crate::phase::Phase;
+use crate::registers::{Registers, head, put_head, store};
 use crate::wake::perform;
+use engine::act::{Act, Refusal};
+use engine::{Memory, Row};
+use pages::Page;
 use pages::bytes::eight_bytes;
-use pages::deed::Deed;
-use pages::journal::{Commit, Part, Turn};
+use pages::deed::{Deed, Step};
+use pages::journal::{Commit, Part};
 use pages::words::put_row;
 
 // The number that the command shows.
-fn tell(memory: &mut [u64], r: Registers, out: &mut [u8]) -> Act
-    requires memory_len { length memory.old ≡ 262144 }
-    requires in_bounds { 512 ≤ length out.old }
+fn tell(memory: &mut Memory, r: Registers, out: &mut Row) -> Result<Act, Refusal>
     ensures turn { Outcome (told r memory.old) result memory.new out.old out.new }
-    ensures small { place_of result < 18446744073709551616 }
 {
     put_row(out, &eight_bytes(r.people));
-    store(
-        memory,
-        Registers {
-            phase: 23,
-            at: 0,
-            side: 0,
-            ..r
-        },
-    );
-    Act::Shows(8)
+    store(memory, r.scanning(Phase::Telling, 0));
+    Ok(Act::Shows(8))
 }
 
-fn carry(memory: &mut [u64], r: Registers, turn: Turn, out: &mut [u8]) -> Act
-    requires memory_len { length memory.old ≡ 262144 }
-    requires in_bounds { 512 ≤ length out.old }
-    requires bounded { Bounded turn.deed }
-    ensures turn { Outcome (committed turn.deed turn.commit r memory.old) result memory.new out.old out.new }
-    ensures small { place_of result < 18446744073709551616 }
+fn carry(
+    memory: &mut Memory,
+    r: Registers,
+    step: Step<Commit>,
+    out: &mut Row,
+) -> Result<Act, Refusal>
+    requires bounded { Bounded step.deed }
+    ensures turn { Outcome (committed step.deed step.state r memory.old) result memory.new out.old out.new }
 {
-    if let Deed::Ready = turn.deed {
+    if let Deed::Ready = step.deed {
         return tell(memory, r, out);
     }
-    let act = perform(memory, turn.deed, &[], out);
-    let state = turn.commit;
+    let act = perform(memory, step.deed, &[], out);
+    let state = step.state;
     store(
         memory,
         Registers {
-            phase: part_number(state.part),
+            phase: Phase::Committing(state.part).into(),
             at: state.at,
             ..r
         },
     );
-    act
+    Ok(act)
 }
 
-fn open(memory: &mut [u64], bytes: &[u8]) -> Turn
-    requires memory_len { length memory.old ≡ 262144 }
-    requires bytes_len { length bytes.now ≡ 512 }
+fn open(memory: &mut Memory, bytes: &Page) -> Step<Commit>
     ensures is { result ≡ opens (head_in memory.old) bytes.now }
     ensures memory { memory.new ≡ with_head (opened (head_in memory.old) bytes.now) memory.old }
-    ensures long { length memory.new ≡ 262144 }
     ensures bounded { Bounded result.deed }
 {
-    Commit::area(&mut memory[3904..3936], bytes)
+    let mut numbers = *head(memory);
+    let turn = Commit::area(&mut numbers, bytes);
+    put_head(memory, &numbers);
+    turn
 }
 
 pub(crate) fn commit_page(
-    memory: &mut [u64],
+    memory: &mut Memory,
     r: Registers,
     part: Part,
-    bytes: &[u8],
-    out: &mut [u8],
-) -> Act
-    requires memory_len { length memory.old ≡ 262144 }
-    requires bytes_len { length bytes.now ≡ 512 }
-    requires in_bounds { 512 ≤ length out.old }
+    bytes: &Page,
+    out: &mut Row,
+) -> Result<Act, Refusal>
     ensures turn { Outcome (committing_page part r bytes.now memory.old) result memory.new out.old out.new }
-    ensures small { place_of result < 18446744073709551616 }
 {
     let Part::Area = part else {
-        return Act::Refused(999);
+        return Err(Refusal::Fault);
     };
-    let turn = open(memory, bytes);
-    carry(memory, r, turn, out)
+    let step = open(memory, bytes);
+    carry(memory, r, step, out)
 }
 
-pub(crate) fn commit_next(memory: &mut [u64], r: Registers, part: Part, out: &mut [u8]) -> Act
-    requires memory_len { length memory.old ≡ 262144 }
-    requires in_bounds { 512 ≤ length out.old }
+pub(crate) fn commit_next(
+    memory: &mut Memory,
+    r: Registers,
+    part: Part,
+    out: &mut Row,
+) -> Result<Act, Refusal>
     ensures turn { Outcome (committing_next part r memory.old) result memory.new out.old out.new }
-    ensures small { place_of result < 18446744073709551616 }
 {
     let commit = Commit { part, at: r.at };
-    let Some(turn) = commit.next(head(memory)) else {
-        return Act::Refused(999);
+    let Some(step) = commit.next(head(memory)) else {
+        return Err(Refusal::Fault);
     };
-    carry(memory, r, turn, out)
+    carry(memory, r, step, out)
 }

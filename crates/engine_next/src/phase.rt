@@ -1,12 +1,13 @@
 // What the machine awaits. In its memory a phase is a number.
 ghost use Rattle.std.specs.Prelude.{◌≡◌};
-ghost use Rattle.engine_next.specs.Phases.{part_number, phase_at, phase_of, stage_number};
+ghost use Rattle.engine_next.specs.Phases.{part_number, phase_number, phase_of, stage_number};
 
 use pages::journal::Part;
+use pages::side::Side;
 use pages::waking::Stage;
 
 // A person joins.
-#[derive(Clone, Copy)]
+#[derive(Clone, Copy, Debug, PartialEq, Eq)]
 pub enum Join {
     // The root page.
     Root,
@@ -16,7 +17,7 @@ pub enum Join {
     People,
 }
 
-#[derive(Clone, Copy)]
+#[derive(Clone, Copy, Debug, PartialEq, Eq)]
 pub enum Phase {
     Idle,
     Waking(Stage),
@@ -26,72 +27,81 @@ pub enum Phase {
     Telling,
 }
 
-fn phase_at(number: u64) -> Phase
-    ensures { result ≡ phase_at number }
-{
-    match number {
-        1 => Phase::Waking(Stage::FirstHeader),
-        2 => Phase::Waking(Stage::SecondHeader),
-        3 => Phase::Waking(Stage::Mending),
-        4 => Phase::Waking(Stage::Wiping),
-        5 => Phase::Waking(Stage::Marking),
-        6 => Phase::Waking(Stage::Asking),
-        7 => Phase::Waking(Stage::Copying),
-        8 => Phase::Waking(Stage::Heading),
-        9 => Phase::Waking(Stage::FirstSlot),
-        10 => Phase::Waking(Stage::FirstHome),
-        11 => Phase::Waking(Stage::SecondSlot),
-        12 => Phase::Waking(Stage::SecondHome),
-        13 => Phase::Committing(Part::Area),
-        14 => Phase::Committing(Part::FirstSlot),
-        15 => Phase::Committing(Part::SecondSlot),
-        16 => Phase::Committing(Part::FirstHead),
-        17 => Phase::Committing(Part::SecondHead),
-        18 => Phase::Committing(Part::FirstHome),
-        19 => Phase::Committing(Part::SecondHome),
-        20 => Phase::Joining(Join::Root),
-        21 => Phase::Joining(Join::Names),
-        22 => Phase::Joining(Join::People),
-        23 => Phase::Telling,
-        _ => Phase::Idle,
+// Numbers that name nothing are taken for idle.
+impl From<u64> for Phase {
+    ghost from_gives = { λ number phase. phase ≡ phase_of number };
+
+    #[tactic(auto, unfolding(crate::specs::Phases::phase_of))]
+    fn from(number: u64) -> Phase {
+        match number {
+            1 => Phase::Waking(Stage::Header(Side::First)),
+            2 => Phase::Waking(Stage::Header(Side::Second)),
+            3 => Phase::Waking(Stage::Mending),
+            4 => Phase::Waking(Stage::Wiping),
+            5 => Phase::Waking(Stage::Marking),
+            6 => Phase::Waking(Stage::Asking),
+            7 => Phase::Waking(Stage::Copying),
+            8 => Phase::Waking(Stage::Heading),
+            9 => Phase::Waking(Stage::Slot(Side::First)),
+            10 => Phase::Waking(Stage::Home(Side::First)),
+            11 => Phase::Waking(Stage::Slot(Side::Second)),
+            12 => Phase::Waking(Stage::Home(Side::Second)),
+            13 => Phase::Committing(Part::Area),
+            14 => Phase::Committing(Part::Slot(Side::First)),
+            15 => Phase::Committing(Part::Slot(Side::Second)),
+            16 => Phase::Committing(Part::Head(Side::First)),
+            17 => Phase::Committing(Part::Head(Side::Second)),
+            18 => Phase::Committing(Part::Home(Side::First)),
+            19 => Phase::Committing(Part::Home(Side::Second)),
+            20 => Phase::Joining(Join::Root),
+            21 => Phase::Joining(Join::Names),
+            22 => Phase::Joining(Join::People),
+            23 => Phase::Telling,
+            _ => Phase::Idle,
+        }
     }
 }
 
-pub(crate) fn phase_of(number: u64) -> Phase
-    ensures { result ≡ phase_of number }
-{
-    phase_at(number)
+impl From<Phase> for u64 {
+    ghost from_gives = { λ phase number. number ≡ phase_number phase };
+
+    fn from(phase: Phase) -> u64 {
+        match phase {
+            Phase::Idle => 0,
+            Phase::Waking(stage) => stage_number(stage),
+            Phase::Committing(part) => part_number(part),
+            Phase::Joining(Join::Root) => 20,
+            Phase::Joining(Join::Names) => 21,
+            Phase::Joining(Join::People) => 22,
+            Phase::Telling => 23,
+        }
+    }
 }
 
-pub(crate) fn stage_number(stage: Stage) -> u64
+// Stage and Part are another crate's, so no From for them can stand here.
+fn stage_number(stage: Stage) -> u64
     ensures { result ≡ stage_number stage }
 {
     match stage {
-        Stage::FirstHeader => 1,
-        Stage::SecondHeader => 2,
+        Stage::Header(side) => 1 + u64::from(side),
         Stage::Mending => 3,
         Stage::Wiping => 4,
         Stage::Marking => 5,
         Stage::Asking => 6,
         Stage::Copying => 7,
         Stage::Heading => 8,
-        Stage::FirstSlot => 9,
-        Stage::FirstHome => 10,
-        Stage::SecondSlot => 11,
-        Stage::SecondHome => 12,
+        Stage::Slot(side) => 9 + 2 * u64::from(side),
+        Stage::Home(side) => 10 + 2 * u64::from(side),
     }
 }
 
-pub(crate) fn part_number(part: Part) -> u64
+fn part_number(part: Part) -> u64
     ensures { result ≡ part_number part }
 {
     match part {
         Part::Area => 13,
-        Part::FirstSlot => 14,
-        Part::SecondSlot => 15,
-        Part::FirstHead => 16,
-        Part::SecondHead => 17,
-        Part::FirstHome => 18,
-        Part::SecondHome => 19,
+        Part::Slot(side) => 14 + u64::from(side),
+        Part::Head(side) => 16 + u64::from(side),
+        Part::Home(side) => 18 + u64::from(side),
     }
 }

@@ -1,11 +1,19 @@
 // The machine's registers and the areas of its memory.
-ghost use Rattle.std.specs.Prelude.{◌≡◌, ◌+◌, ◌*◌, ◌<◌, ◌≤◌, length};
-ghost use Rattle.engine_next.specs.Memory.{batch_in, head_in, loaded, name_in, root_in, stored, with_batch, with_name, with_root};
+ghost use Rattle.std.specs.Prelude.{◌≡◌, true, false, MatchOption, ◌+◌, ◌*◌, ◌<◌, ◌≤◌, length};
+ghost use Rattle.engine.specs.Own.{a_house};
+ghost use Rattle.engine_next.specs.Own.{scanning};
+ghost use Rattle.engine_next.specs.Phases.{phase_number};
+ghost use Rattle.engine_next.specs.Memory.{batch_in, head_in, loaded, name_in, root_in, stored, with_batch, with_head, with_name, with_root};
 ghost use Rattle.pages.specs.Bytes.{over};
 
+use crate::phase::Phase;
+use engine::{Memory, Row, is_house};
+use pages::Page;
+use pages::heads::Header;
 use pages::words::{put_bytes, put_low_bytes};
 
-#[derive(Clone, Copy)]
+// As memory holds them, which is not trusted: any number may stand in each, the phase and the side too.
+#[derive(Clone, Copy, Debug, PartialEq, Eq)]
 pub struct Registers {
     pub phase: u64,
     // Of each device; between commands only this one matters.
@@ -21,8 +29,39 @@ pub struct Registers {
     pub weight: u64,
 }
 
-pub(crate) fn load(memory: &[u64]) -> Registers
-    requires { length memory.now ≡ 262144 }
+// Registers of devices that have as many pages as a house may have.
+#[derive(Clone, Copy)]
+pub struct Housed {
+    pub registers: Registers,
+    ghost fewest: { 256 ≤ registers.pages },
+    ghost most: { registers.pages ≤ 1048576 },
+}
+
+impl Registers {
+    // In another phase, from one page or slot on.
+    pub(crate) fn scanning(self, phase: Phase, at: u64) -> Registers
+        ensures { result ≡ scanning (phase_number phase) at self }
+    {
+        Registers {
+            phase: phase.into(),
+            at,
+            side: 0,
+            ..self
+        }
+    }
+
+    pub(crate) fn housed(self) -> Option<Housed>
+        ensures { MatchOption result (a_house self.pages ≡ false) (λ house. (a_house self.pages ≡ true) × (house.registers ≡ self)) }
+    {
+        if is_house(self.pages) {
+            Some(Housed { registers: self })
+        } else {
+            None
+        }
+    }
+}
+
+pub(crate) fn load(memory: &Memory) -> Registers
     ensures { result ≡ loaded memory.now }
 {
     Registers {
@@ -36,8 +75,7 @@ pub(crate) fn load(memory: &[u64]) -> Registers
     }
 }
 
-pub(crate) fn store(memory: &mut [u64], r: Registers)
-    requires { length memory.old ≡ 262144 }
+pub(crate) fn store(memory: &mut Memory, r: Registers)
     ensures { memory.new ≡ stored r memory.old }
 {
     memory[0] = r.phase;
@@ -50,16 +88,20 @@ pub(crate) fn store(memory: &mut [u64], r: Registers)
 }
 
 // The numbers of the header at hand.
-pub(crate) fn head(memory: &[u64]) -> &[u64]
-    requires { length memory.now ≡ 262144 }
-    ensures is { result.now ≡ head_in memory.now }
-    ensures long { length result.now ≡ 32 }
+pub(crate) fn head(memory: &Memory) -> &Header
+    ensures { result.now ≡ head_in memory.now }
 {
-    &memory[3904..3936]
+    memory[3904..].first_chunk().unwrap()
 }
 
-pub(crate) fn put_name(memory: &mut [u64], name: &[u8])
-    requires memory_len { length memory.old ≡ 262144 }
+// Copied out, changed and put back: tried in place, and what is written through an array that is lent out of memory isn't known of it.
+pub(crate) fn put_head(memory: &mut Memory, head: &Header)
+    ensures { memory.new ≡ with_head head.now memory.old }
+{
+    memory[3904..3936].copy_from_slice(head);
+}
+
+pub(crate) fn put_name(memory: &mut Memory, name: &[u8])
     requires name_len_bound { length name.now ≤ 64 }
     ensures { memory.new ≡ with_name name.now memory.old }
 {
@@ -67,34 +109,26 @@ pub(crate) fn put_name(memory: &mut [u64], name: &[u8])
 }
 
 // The name at hand, into the front of a row.
-pub(crate) fn name(memory: &[u64], long: usize, row: &mut [u8])
-    requires memory_len { length memory.now ≡ 262144 }
+pub(crate) fn name(memory: &Memory, long: usize, row: &mut [u8; 64])
     requires long_bound { long ≤ 64 }
-    requires row_len { length row.old ≡ 64 }
     ensures { row.new ≡ over (name_in long memory.now) row.old }
 {
     put_low_bytes(row, &memory[64..64 + long]);
 }
 
-pub(crate) fn put_root(memory: &mut [u64], page: &[u8])
-    requires memory_len { length memory.old ≡ 262144 }
-    requires page_len { length page.now ≡ 512 }
+pub(crate) fn put_root(memory: &mut Memory, page: &Page)
     ensures { memory.new ≡ with_root page.now memory.old }
 {
     put_bytes(&mut memory[3392..3904], page);
 }
 
-pub(crate) fn root(memory: &[u64], page: &mut [u8])
-    requires memory_len { length memory.now ≡ 262144 }
-    requires page_len { length page.old ≡ 512 }
+pub(crate) fn root(memory: &Memory, page: &mut Page)
     ensures { page.new ≡ over (root_in memory.now) page.old }
 {
     put_low_bytes(page, &memory[3392..3904]);
 }
 
-pub(crate) fn put_batch(memory: &mut [u64], i: u64, page: &[u8])
-    requires memory_len { length memory.old ≡ 262144 }
-    requires page_len { length page.now ≡ 512 }
+pub(crate) fn put_batch(memory: &mut Memory, i: u64, page: &Page)
     requires i_bound { i < 29 }
     ensures { memory.new ≡ with_batch i page.now memory.old }
 {
@@ -102,9 +136,7 @@ pub(crate) fn put_batch(memory: &mut [u64], i: u64, page: &[u8])
     put_bytes(&mut memory[from..from + 512], page);
 }
 
-pub(crate) fn batch(memory: &[u64], i: u64, row: &mut [u8])
-    requires memory_len { length memory.now ≡ 262144 }
-    requires in_bounds { 512 ≤ length row.old }
+pub(crate) fn batch(memory: &Memory, i: u64, row: &mut Row)
     requires i_bound { i < 29 }
     ensures { row.new ≡ over (batch_in i memory.now) row.old }
 {

@@ -1,8 +1,11 @@
+// As engine's tests, since a crate's tests see no other's; and two people who join.
 // A worked week as bytes: each command is read, and each event written back; and what is no command is refused with 1.
-use crate::{Told, step};
-use records::command::{Command, Draft};
+use crate::{MEMORY, ROW, step};
+use engine::act::{Act, Refusal};
+use pages::side::Side;
+use records::command::{Command, Draft, Part};
 use records::read::read;
-use records::write::write_event;
+use records::write::{Entry, write_event};
 use std::alloc::{AllocError, Global};
 use std::test::Fail;
 
@@ -49,6 +52,12 @@ fn page_at(side: &[u8], at: usize) -> [u8; 512] {
     page
 }
 
+fn put_page(side: &mut [u8], at: usize, page: &[u8; 512]) {
+    if let Some(bytes) = side.get_mut(at..at.saturating_add(512)) {
+        bytes.copy_from_slice(page);
+    }
+}
+
 // A machine with two devices of 256 pages in memory.
 #[derive(Drop)]
 struct House {
@@ -63,8 +72,8 @@ struct House {
 impl House {
     fn new(heap: Global) -> Result<House, AllocError> {
         let mut house = House {
-            memory: vec![in heap; 0u64; 262144]?,
-            row: vec![in heap; 0u8; 131072]?,
+            memory: vec![in heap; 0u64; MEMORY]?,
+            row: vec![in heap; 0u8; ROW]?,
             first: vec![in heap; 0u8; 131072]?,
             second: vec![in heap; 0u8; 131072]?,
             shown: 1000,
@@ -73,7 +82,7 @@ impl House {
         Ok(house)
     }
 
-    fn step(&mut self, kind: u64, bytes: &[u8]) -> Told {
+    fn step(&mut self, kind: u64, bytes: &[u8]) -> Result<Act, Refusal> {
         step(
             self.memory.as_mut_slice(),
             kind,
@@ -82,27 +91,21 @@ impl House {
         )
     }
 
-    fn read(&mut self, place: u64) -> Told {
-        let at = (place / 2 % 256 * 512) as usize;
-        let page = if place % 2 == 0 {
-            page_at(self.first.as_slice(), at)
-        } else {
-            page_at(self.second.as_slice(), at)
+    fn read(&mut self, side: Side, page: u64) -> Result<Act, Refusal> {
+        let at = (page % 256 * 512) as usize;
+        let page = match side {
+            Side::First => page_at(self.first.as_slice(), at),
+            Side::Second => page_at(self.second.as_slice(), at),
         };
         self.step(2, &page)
     }
 
-    fn write(&mut self, place: u64) -> Told {
-        let at = (place / 2 % 256 * 512) as usize;
+    fn write(&mut self, side: Side, page: u64) -> Result<Act, Refusal> {
+        let at = (page % 256 * 512) as usize;
         let page = page_at(self.row.as_slice(), 0);
-        for i in 0..512 {
-            if place % 2 == 0 {
-                if let Some(b) = self.first.get_mut(at + i) {
-                    *b = page[i];
-                }
-            } else if let Some(b) = self.second.get_mut(at + i) {
-                *b = page[i];
-            }
+        match side {
+            Side::First => put_page(self.first.as_mut_slice(), at, &page),
+            Side::Second => put_page(self.second.as_mut_slice(), at, &page),
         }
         self.step(3, &[])
     }
@@ -112,14 +115,14 @@ impl House {
         let mut told = self.step(kind, bytes);
         for _ in 0..10000 {
             told = match told {
-                Told::Read(place) => self.read(place),
-                Told::Write(place) => self.write(place),
-                Told::Shows(_) => {
+                Ok(Act::Read(side, page)) => self.read(side, page),
+                Ok(Act::Write(side, page)) => self.write(side, page),
+                Ok(Act::Shows(_)) => {
                     self.shown = pages::bytes::number(self.row.as_slice());
                     self.step(3, &[])
                 }
-                Told::Done => return 0,
-                Told::No(number) => return number,
+                Ok(Act::Done) => return 0,
+                Err(refusal) => return u64::from(refusal),
             };
         }
         1000
@@ -141,29 +144,29 @@ fn bytes_of(heap: Global, hex: &str) -> Result<Vec<u8>, Fail> {
     }
 }
 
-// A number of eight bytes at a place, if they are there.
-fn number_at(bytes: &[u8], at: usize) -> u64 {
-    match bytes.get(at..at.saturating_add(8)) {
-        Some(eight) => pages::bytes::number(eight),
-        None => 0,
+// So many pieces of a width from a place on.
+fn pieces(bytes: &[u8], part: Part, width: usize) -> Result<&[u8], Fail> {
+    let end = part.start.saturating_add(part.count.saturating_mul(width));
+    match bytes.get(part.start..end) {
+        Some(pieces) => Ok(pieces),
+        None => Err(Fail::new("a list past the end")),
     }
 }
 
 // An event written again, from what was read of it.
 fn again(heap: Global, bytes: &[u8], draft: Draft) -> Result<Vec<u8>, Fail> {
     let mut days = Vec::new(heap);
-    for i in 0..draft.left_out.count {
-        days.push(number_at(
-            bytes,
-            draft.left_out.start.saturating_add(i.saturating_mul(8)),
-        ))?;
+    for eight in pieces(bytes, draft.left_out, 8)?.as_chunks::<8>().0 {
+        days.push(u64::from_be_bytes(*eight))?;
     }
-    let start = draft.title.start;
-    let Some(title) = bytes.get(start..start.saturating_add(draft.title.count)) else {
-        return Err(Fail::new("a title past the end"));
-    };
+    let title = pieces(bytes, draft.title, 1)?;
     let mut row = vec![in heap; 0u8; 8386]?;
-    let Some(size) = write_event(row.as_mut_slice(), draft.event, title, days.as_slice()) else {
+    let entry = Entry {
+        event: draft.event,
+        title,
+        left_out: days.as_slice(),
+    };
+    let Some(size) = write_event(row.as_mut_slice(), &entry) else {
         return Err(Fail::new("not written"));
     };
     row.truncate(size);

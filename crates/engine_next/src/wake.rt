@@ -1,25 +1,28 @@
 // Power comes up: the store's recovery, run in the machine's registers.
-ghost use Rattle.std.specs.Prelude.{◌≡◌, ℕ, ◌<◌, ◌≤◌, List, [], length};
+// A deed is asked to be Bounded, and no type holds that: a step with a ghost field could not be said equal to the one that the definitions hand on.
+// Memory, registers, bytes and row stand side by side: each contract is one equation of a step of the machine over the four.
+ghost use Rattle.std.specs.Prelude.{◌≡◌, ℕ, Ok, ◌<◌, ◌≤◌, List, [], length};
 ghost use Rattle.pages.specs.Bytes.{over};
 ghost use Rattle.pages.specs.Deeds.{Bounded, in_content};
 ghost use Rattle.pages.specs.Waking.{awaits_header, heard_head, hears};
-ghost use Rattle.engine_next.specs.Acts.{act_of, out_of, place_of};
+ghost use Rattle.engine.specs.Acts.{Outcome, out_of, told, told_of};
 ghost use Rattle.engine_next.specs.Memory.{head_in, with_head};
-ghost use Rattle.engine_next.specs.Own.{Outcome, act_for, content_of, header_came, recovery_of, waking_next, waking_page, woken};
+ghost use Rattle.engine_next.specs.Own.{act_for, content_of, header_came, is_side, recovery_of, waking_next, waking_page, woken};
 
-use crate::act::Act;
-use crate::phase::stage_number;
-use crate::registers::{Registers, batch, head, store};
-use pages::deed::{Content, Deed};
+use crate::phase::Phase;
+use crate::registers::{Housed, Registers, batch, head, put_head, store};
+use engine::act::{Act, Refusal};
+use engine::{Memory, Row};
+use pages::Page;
+use pages::deed::{Content, Deed, Step};
 use pages::heads::put_header;
-use pages::waking::{Move, Recovery, Stage};
+use pages::side::Side;
+use pages::waking::{Recovery, Stage};
 use pages::words::{blank_row, put_row};
 
 // What is written, into the front of the row.
-fn fill(memory: &[u64], content: Content, bytes: &[u8], out: &mut [u8])
-    requires memory_len { length memory.now ≡ 262144 }
+fn fill(memory: &Memory, content: Content, bytes: &[u8], out: &mut Row)
     requires bytes_len_bound { length bytes.now ≤ 512 }
-    requires in_bounds { 512 ≤ length out.old }
     requires content_bound { in_content content < 29 }
     ensures { out.new ≡ over (content_of content bytes.now memory.now) out.old }
 {
@@ -32,14 +35,11 @@ fn fill(memory: &[u64], content: Content, bytes: &[u8], out: &mut [u8])
 }
 
 // A deed of the store as an act, with what it writes in the row.
-pub(crate) fn perform(memory: &[u64], deed: Deed, bytes: &[u8], out: &mut [u8]) -> Act
-    requires memory_len { length memory.now ≡ 262144 }
+pub(crate) fn perform(memory: &Memory, deed: Deed, bytes: &[u8], out: &mut Row) -> Act
     requires bytes_len_bound { length bytes.now ≤ 512 }
-    requires in_bounds { 512 ≤ length out.old }
     requires bounded { Bounded deed }
-    ensures act { result ≡ act_of (act_for deed bytes.now memory.now) }
+    ensures act { told (Ok result) ≡ told_of (act_for deed bytes.now memory.now) }
     ensures out { out.new ≡ out_of (act_for deed bytes.now memory.now) out.old }
-    ensures small { place_of result < 18446744073709551616 }
 {
     match deed {
         Deed::Read(side, page) => Act::Read(side, page),
@@ -51,84 +51,104 @@ pub(crate) fn perform(memory: &[u64], deed: Deed, bytes: &[u8], out: &mut [u8]) 
     }
 }
 
-fn carry(memory: &mut [u64], r: Registers, step: Move, bytes: &[u8], out: &mut [u8]) -> Act
-    requires memory_len { length memory.old ≡ 262144 }
+fn carry(
+    memory: &mut Memory,
+    r: Registers,
+    step: Step<Recovery>,
+    bytes: &[u8],
+    out: &mut Row,
+) -> Result<Act, Refusal>
     requires bytes_len_bound { length bytes.now ≤ 512 }
-    requires in_bounds { 512 ≤ length out.old }
     requires bounded { Bounded step.deed }
     ensures turn { Outcome (woken step r bytes.now memory.old) result memory.new out.old out.new }
-    ensures small { place_of result < 18446744073709551616 }
 {
     let act = perform(memory, step.deed, bytes, out);
-    let state = step.recovery;
+    let state = step.state;
     store(
         memory,
         Registers {
-            phase: stage_number(state.stage),
+            phase: Phase::Waking(state.stage).into(),
             at: state.at,
-            side: state.side,
+            side: state.side.into(),
             ..r
         },
     );
-    act
+    Ok(act)
 }
 
-fn hear(memory: &mut [u64], recovery: Recovery, bytes: &[u8]) -> Move
-    requires memory_len { length memory.old ≡ 262144 }
-    requires bytes_len { length bytes.now ≡ 512 }
-    requires pages_bound { recovery.pages ≤ 1048576 }
-    ensures is { result ≡ hears recovery.stage (head_in memory.old) bytes.now recovery }
-    ensures memory { memory.new ≡ with_head (heard_head recovery.stage (head_in memory.old) bytes.now) memory.old }
-    ensures long { length memory.new ≡ 262144 }
-    ensures bounded { Bounded result.deed }
+// Only 0 and 1 are sides, and a register may hold any number.
+fn is_side(number: u64) -> bool
+    ensures { result ≡ is_side number }
 {
-    recovery.header(&mut memory[3904..3936], bytes)
+    number <= 1
 }
 
-pub(crate) fn wake_page(
-    memory: &mut [u64],
-    r: Registers,
-    stage: Stage,
-    bytes: &[u8],
-    out: &mut [u8],
-) -> Act
-    requires memory_len { length memory.old ≡ 262144 }
-    requires bytes_len { length bytes.now ≡ 512 }
-    requires in_bounds { 512 ≤ length out.old }
-    requires pages_bound { r.pages ≤ 1048576 }
-    ensures turn { Outcome (waking_page stage r bytes.now memory.old) result memory.new out.old out.new }
-    ensures small { place_of result < 18446744073709551616 }
+// The recovery that the registers tell of. Where a header is heard the side does not matter, so other numbers count as the first.
+fn recovery_of(stage: Stage, r: Registers) -> Recovery
+    ensures { result ≡ recovery_of stage r }
 {
-    let recovery = Recovery {
+    let side = if r.side == 1 {
+        Side::Second
+    } else {
+        Side::First
+    };
+    Recovery {
         stage,
         pages: r.pages,
         at: r.at,
-        side: r.side,
-    };
+        side,
+    }
+}
+
+fn hear(memory: &mut Memory, recovery: Recovery, bytes: &Page) -> Step<Recovery>
+    requires pages_bound { recovery.pages ≤ 1048576 }
+    ensures is { result ≡ hears recovery.stage (head_in memory.old) bytes.now recovery }
+    ensures memory { memory.new ≡ with_head (heard_head recovery.stage (head_in memory.old) bytes.now) memory.old }
+    ensures bounded { Bounded result.deed }
+{
+    let mut numbers = *head(memory);
+    let step = recovery.header(&mut numbers, bytes);
+    put_head(memory, &numbers);
+    step
+}
+
+pub(crate) fn wake_page(
+    memory: &mut Memory,
+    house: Housed,
+    stage: Stage,
+    bytes: &Page,
+    out: &mut Row,
+) -> Result<Act, Refusal>
+    ensures turn { Outcome (waking_page stage house.registers bytes.now memory.old) result memory.new out.old out.new }
+{
+    let r = house.registers;
+    let recovery = recovery_of(stage, r);
     if recovery.is_header() {
         let step = hear(memory, recovery, bytes);
         return carry(memory, r, step, bytes, out);
     }
+    if !is_side(r.side) {
+        return Err(Refusal::Fault);
+    }
     let Some(step) = recovery.page(head(memory)) else {
-        return Act::Refused(999);
+        return Err(Refusal::Fault);
     };
     carry(memory, r, step, bytes, out)
 }
 
-pub(crate) fn wake_next(memory: &mut [u64], r: Registers, stage: Stage, out: &mut [u8]) -> Act
-    requires memory_len { length memory.old ≡ 262144 }
-    requires in_bounds { 512 ≤ length out.old }
+pub(crate) fn wake_next(
+    memory: &mut Memory,
+    r: Registers,
+    stage: Stage,
+    out: &mut Row,
+) -> Result<Act, Refusal>
     ensures turn { Outcome (waking_next stage r memory.old) result memory.new out.old out.new }
-    ensures small { place_of result < 18446744073709551616 }
 {
-    let recovery = Recovery {
-        stage,
-        pages: r.pages,
-        at: r.at,
-        side: r.side,
-    };
-    let Some(step) = recovery.next(head(memory)) else {
-        return Act::Refused(999);
+    if !is_side(r.side) {
+        return Err(Refusal::Fault);
+    }
+    let Some(step) = recovery_of(stage, r).next(head(memory)) else {
+        return Err(Refusal::Fault);
     };
     carry(memory, r, step, &[], out)
 }

@@ -1,134 +1,183 @@
 // The two files of a house: pages of 512 bytes, one after the other.
-ghost use Rattle.std.specs.Prelude.{◌≡◌, ◌*◌, ◌≤◌, ltb, IfSome, IfOk, if◌then◌else◌, Ok, Err, vec_len, OnOk, nat_lt};
-ghost use Rattle.host.specs.Sides.{Housed, Sound};
+ghost use Rattle.std.specs.Prelude.{◌≡◌, ◌*◌, ◌≤◌, ◌↔◌, true, ltb, IfSome, IfOk, IsTrue, if◌then◌else◌, vec_len, OnOk, IsErrOf};
+ghost use Rattle.host.specs.Sides.{Housed};
 
-use std::alloc::Global;
+use crate::machine::{Devices, PAGE, Unwritten};
+use pages::Page;
+use pages::side::Side;
+use std::alloc::{AllocError, Global};
+use std::error::Error;
 use std::fs::{File, OpenFile, OpenOptions};
 use std::io::{Read, Seek, SeekFrom, Write};
-use std::{fs, io};
-
-pub const PAGE: usize = 512;
+use std::{fmt, fs, io};
 
 pub const FEWEST: u64 = 256;
 
 pub const MOST: u64 = 1_048_576;
 
+// Whether a house may have so many pages on each side.
+pub fn is_house(pages: u64) -> bool
+    ensures { IsTrue result ↔ Housed pages }
+{
+    pages >= FEWEST && pages <= MOST
+}
+
+// Two files of so many pages each.
 #[derive(Drop)]
 pub struct Sides {
     first: File,
     second: File,
     pages: u64,
+    ghost housed: { Housed pages },
 }
 
-// What was found as the files were opened.
-#[derive(Drop)]
-pub enum Opened {
-    Both(Sides),
+// How the files were found.
+#[derive(Clone, Copy, Debug, PartialEq, Eq)]
+pub enum Found {
+    Both,
     // Both were made, blank.
-    New(Sides),
+    New,
     // One was missing, and a blank one stands in its place.
-    FirstMade(Sides),
-    SecondMade(Sides),
-    // Nothing is touched: so many bytes cannot be the length of a side.
+    FirstMade,
+    SecondMade,
+}
+
+// Why there is no house; nothing is touched then.
+#[derive(Debug, Drop)]
+pub enum Unopened {
+    // So many bytes cannot be the length of a side.
     NoSide { path: String, bytes: u64 },
     Unequal { first: u64, second: u64 },
     // No house has so many pages.
     NoHouse(u64),
+    Io(io::Error),
 }
 
-pub fn open(rt: &HostRuntime, first: &str, second: &str, pages: u64) -> io::Result<Opened>
-    ensures { IfOk result Sound }
-{
-    let heap = rt.alloc();
+impl fmt::Display for Unopened {
+    fn fmt<W: fmt::Write>(&self, f: &mut fmt::Formatter<W>) -> fmt::Result {
+        match self {
+            Unopened::NoSide { path, bytes } => write!(
+                f,
+                "{path} has {bytes} bytes: a side has 256 to 1048576 pages of 512 bytes; nothing is touched"
+            ),
+            Unopened::Unequal { first, second } => write!(
+                f,
+                "the files have {first} and {second} bytes, and should be equally long; nothing is touched"
+            ),
+            Unopened::NoHouse(pages) => write!(
+                f,
+                "a house has 256 to 1048576 pages, and not {pages}"
+            ),
+            Unopened::Io(why) => write!(f, "{why}"),
+        }
+    }
+}
+
+impl Error for Unopened {}
+
+impl From<io::Error> for Unopened {
+    fn from(why: io::Error) -> Unopened {
+        Unopened::Io(why)
+    }
+}
+
+impl From<AllocError> for Unopened {
+    fn from(why: AllocError) -> Unopened {
+        Unopened::Io(io::Error::from(why))
+    }
+}
+
+// The files' sides, made where they are missing, and how they were found.
+pub fn open(
+    rt: &HostRuntime,
+    first: &str,
+    second: &str,
+    pages: u64,
+) -> Result<(Sides, Found), Unopened> {
     match (fs::exists(rt, first)?, fs::exists(rt, second)?) {
-        (true, true) => open_both(rt, first, second),
+        (true, true) => Ok((open_both(rt, first, second)?, Found::Both)),
         (false, false) => {
-            if pages < FEWEST || pages > MOST {
-                return Ok(Opened::NoHouse(pages));
+            if !is_house(pages) {
+                return Err(Unopened::NoHouse(pages));
             }
             let sides = Sides {
                 first: make(rt, first, pages)?,
                 second: make(rt, second, pages)?,
                 pages,
             };
-            Ok(Opened::New(sides))
+            Ok((sides, Found::New))
         }
-        (true, false) => match beside(rt, first, second)? {
-            Ok((first, second, pages)) => Ok(Opened::SecondMade(Sides {
+        (true, false) => {
+            let (first, second, pages) = beside(rt, first, second)?;
+            let sides = Sides {
                 first,
                 second,
                 pages,
-            })),
-            Err(bytes) => no_side(heap, first, bytes),
-        },
-        (false, true) => match beside(rt, second, first)? {
-            Ok((second, first, pages)) => Ok(Opened::FirstMade(Sides {
+            };
+            Ok((sides, Found::SecondMade))
+        }
+        (false, true) => {
+            let (second, first, pages) = beside(rt, second, first)?;
+            let sides = Sides {
                 first,
                 second,
                 pages,
-            })),
-            Err(bytes) => no_side(heap, second, bytes),
-        },
+            };
+            Ok((sides, Found::FirstMade))
+        }
     }
 }
 
-// The file that is there, a blank one of its length in the place of the other, and its pages; or its bytes, where they are no side.
-fn beside(
-    rt: &HostRuntime,
-    there: &str,
-    missing: &str,
-) -> io::Result<Result<(File, File, u64), u64>>
-    ensures { IfOk result (λ x. elim x [ Ok t ↦ Housed t.2 | Err b ↦ Unit {0} ]) }
+// The file that is there, a blank one of its length in the place of the other, and its pages.
+fn beside(rt: &HostRuntime, there: &str, missing: &str) -> Result<(File, File, u64), Unopened>
+    ensures { IfOk result (λ t. Housed t.2) }
 {
     let old = open_one(rt, there)?;
-    let bytes = old.metadata()?.len();
-    let Some(pages) = pages_in(bytes) else {
-        return Ok(Err(bytes));
-    };
+    let pages = measured(rt.alloc(), old.metadata()?.len(), there)?;
     let new = make(rt, missing, pages)?;
-    Ok(Ok((old, new, pages)))
+    Ok((old, new, pages))
 }
 
 // Both files, which have to be there.
-pub fn open_both(rt: &HostRuntime, first: &str, second: &str) -> io::Result<Opened>
-    ensures { IfOk result Sound }
-{
+pub fn open_both(rt: &HostRuntime, first: &str, second: &str) -> Result<Sides, Unopened> {
     let one = open_one(rt, first)?;
     let two = open_one(rt, second)?;
     let bytes = one.metadata()?.len();
     let others = two.metadata()?.len();
-    let Some(pages) = pages_in(bytes) else {
-        return no_side(rt.alloc(), first, bytes);
-    };
-    if pages_in(others).is_none() {
-        return no_side(rt.alloc(), second, others);
-    }
+    let pages = measured(rt.alloc(), bytes, first)?;
+    measured(rt.alloc(), others, second)?;
     if bytes != others {
-        return Ok(Opened::Unequal {
+        return Err(Unopened::Unequal {
             first: bytes,
             second: others,
         });
     }
-    Ok(Opened::Both(Sides {
+    Ok(Sides {
         first: one,
         second: two,
         pages,
-    }))
+    })
 }
 
-fn no_side(heap: Global, path: &str, bytes: u64) -> io::Result<Opened>
-    ensures { IfOk result Sound }
+// How many pages a file of so many bytes has, if it is a side.
+fn measured(heap: Global, bytes: u64, path: &str) -> Result<u64, Unopened>
+    ensures { IfOk result Housed }
 {
-    let path = String::from_str(heap, path)?;
-    Ok(Opened::NoSide { path, bytes })
+    match pages_in(bytes) {
+        Some(pages) => Ok(pages),
+        None => Err(Unopened::NoSide {
+            path: String::from_str(heap, path)?,
+            bytes,
+        }),
+    }
 }
 
 // How many pages a side of so many bytes has.
 fn pages_in(bytes: u64) -> Option<u64>
     ensures { IfSome result (λ n. (256 ≤ n) × (n ≤ 1048576) × (512 * n ≡ bytes)) }
 {
-    let pages = bytes / 512;
-    if bytes % 512 != 0 || pages < FEWEST || pages > MOST {
+    let pages = bytes / PAGE as u64;
+    if bytes % PAGE as u64 != 0 || !is_house(pages) {
         return None;
     }
     Some(pages)
@@ -140,7 +189,7 @@ fn open_one(rt: &HostRuntime, path: &str) -> io::Result<File> {
 
 fn make(rt: &HostRuntime, path: &str, pages: u64) -> io::Result<File> {
     let file = File::create_new(rt, path)?;
-    file.set_len(pages.saturating_mul(512))?;
+    file.set_len(pages.saturating_mul(PAGE as u64))?;
     file.sync_all()?;
     Ok(file)
 }
@@ -153,7 +202,7 @@ impl Sides {
     }
 
     // Reads a page into `page`; one beyond the end is empty.
-    pub fn read(&mut self, second: bool, k: u64, page: &mut Vec<u8>) -> io::Result<()>
+    pub fn read(&mut self, side: Side, k: u64, page: &mut Vec<u8>) -> io::Result<()>
         ensures { OnOk result (vec_len page.new ≡ (if ltb k self.old.pages then 512 else 0)) }
     {
         page.clear();
@@ -161,36 +210,51 @@ impl Sides {
             return Ok(());
         }
         page.resize(PAGE, 0)?;
-        if second {
-            read_at(&mut self.second, k, page.as_mut_slice())
-        } else {
-            read_at(&mut self.first, k, page.as_mut_slice())
-        }
+        read_at(self.file(side), k, page.as_mut_slice())
     }
 
     // Writes a page, and sees that it is on the disk; or says that there is no such page.
-    pub fn write(&mut self, second: bool, k: u64, page: &[u8]) -> io::Result<bool>
-        ensures { IfOk result (λ there. there ≡ nat_lt k self.old.pages) }
+    pub fn write(&mut self, side: Side, k: u64, page: &[u8]) -> Result<(), Unwritten>
+        ensures there { IfOk result (λ _. ltb k self.old.pages ≡ true) }
+        ensures no_page { IsErrOf result Unwritten.NoSuchPage ↔ (self.old.pages ≤ k) }
     {
         if k >= self.pages {
-            return Ok(false);
+            return Err(Unwritten::NoSuchPage);
         }
-        if second {
-            write_at(&mut self.second, k, page)?;
-        } else {
-            write_at(&mut self.first, k, page)?;
+        write_at(self.file(side), k, page)?;
+        Ok(())
+    }
+
+    fn file(&mut self, side: Side) -> &mut File {
+        match side {
+            Side::First => &mut self.first,
+            Side::Second => &mut self.second,
         }
-        Ok(true)
+    }
+}
+
+// The trait asks for no promise; Sides' own functions make them.
+impl Devices for Sides {
+    fn pages(&self) -> u64 {
+        Sides::pages(self)
+    }
+
+    fn read(&mut self, side: Side, page: u64, into: &mut Vec<u8>) -> io::Result<()> {
+        Sides::read(self, side, page, into)
+    }
+
+    fn write(&mut self, side: Side, page: u64, bytes: &Page) -> Result<(), Unwritten> {
+        Sides::write(self, side, page, bytes)
     }
 }
 
 fn read_at(file: &mut File, k: u64, page: &mut [u8]) -> io::Result<()> {
-    file.seek(SeekFrom::Start(k.saturating_mul(512)))?;
+    file.seek(SeekFrom::Start(k.saturating_mul(PAGE as u64)))?;
     file.read_exact(page)
 }
 
 fn write_at(file: &mut File, k: u64, page: &[u8]) -> io::Result<()> {
-    file.seek(SeekFrom::Start(k.saturating_mul(512)))?;
+    file.seek(SeekFrom::Start(k.saturating_mul(PAGE as u64)))?;
     file.write_all(page)?;
     file.sync_data()
 }

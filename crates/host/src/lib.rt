@@ -3,3 +3,8 @@
 
 pub mod files;
 pub mod house;
+pub mod machine;
+pub mod parts;
+pub mod spell;
+#[cfg(test)]
+mod tests;

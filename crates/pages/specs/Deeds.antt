@@ -1,14 +1,25 @@
--- Deeds whose numbers are in their ranges. Assumes nothing: these are definitions.
+-- The two sides, and deeds whose numbers are in their ranges. Assumes nothing: these are definitions.
 use Rattle.std.specs.Prelude.{ℕ, ◌+◌, ◌*◌, ◌<◌}
+use Rattle.pages.specs.declared.side.Side.{Side}
+use Rattle.pages.specs.declared.side.Side.TheVariants.{First, Second}
 use Rattle.pages.specs.declared.deed.Content.{Content}
 use Rattle.pages.specs.declared.deed.Content.TheVariants.{Blank, Told, Header, Batch}
 use Rattle.pages.specs.declared.deed.Deed.{Deed}
 use Rattle.pages.specs.declared.deed.Deed.TheVariants.{Read, Write, Ready}
 
+-- a side's number
+abbrev pub side_number : Side → ℕ
+side_number First = 0
+side_number Second = 1
+
+abbrev pub other : Side → Side
+other First = Second
+other Second = First
+
 -- twice the page, and the side; 0 where there is none
 abbrev pub place_in : Deed → ℕ
-place_in (Read s k) = 2 * k + s
-place_in (Write s k c) = 2 * k + s
+place_in (Read s k) = 2 * k + side_number s
+place_in (Write s k c) = 2 * k + side_number s
 place_in Ready = 0
 
 -- which page of the batch; 0 for what is none

@@ -9,25 +9,16 @@ pub fn eight_bytes(number: u64) -> [u8; 8]
     number.to_be_bytes()
 }
 
-// The number of a few bytes.
-fn short_number(bytes: &[u8]) -> u64
-    ensures { result ≡ from_eight 0 (take 8 bytes.now) }
-{
-    let mut n = 0;
-    for i in 0..bytes.len().min(8) {
-        n = 256 * n + bytes[i] as u64;
-    }
-    n
-}
-
 // The number of the first eight bytes, or of as many as there are. Eight at once is what a processor loads at once.
 pub fn number(bytes: &[u8]) -> u64
     ensures { result ≡ from_eight 0 (take 8 bytes.now) }
 {
-    if bytes.len() < 8 {
-        return short_number(bytes);
+    if let Some(eight) = bytes.first_chunk() {
+        return u64::from_be_bytes(*eight);
     }
-    u64::from_be_bytes([
-        bytes[0], bytes[1], bytes[2], bytes[3], bytes[4], bytes[5], bytes[6], bytes[7],
-    ])
+    let mut n = 0;
+    for b in bytes {
+        n = 256 * n + u64::from(*b);
+    }
+    n
 }

@@ -1,5 +1,7 @@
 // What a part of the store does next, and what it writes.
-#[derive(Clone, Copy)]
+use crate::side::Side;
+
+#[derive(Clone, Copy, Debug, PartialEq, Eq)]
 pub enum Content {
     // Zeros.
     Blank,
@@ -11,11 +13,18 @@ pub enum Content {
     Batch(u64),
 }
 
-#[derive(Clone, Copy)]
+#[derive(Clone, Copy, Debug, PartialEq, Eq)]
 pub enum Deed {
-    // A side, 0 or 1, and a page.
-    Read(u64, u64),
-    Write(u64, u64, Content),
-    // It is through.
+    // A side and a page.
+    Read(Side, u64),
+    Write(Side, u64, Content),
+    // It is through. A deed like the others, since the machine keeps a state then, too.
     Ready,
+}
+
+// What a part of the store awaits then, and its deed.
+#[derive(Clone, Copy, Debug, PartialEq, Eq)]
+pub struct Step<S> {
+    pub state: S,
+    pub deed: Deed,
 }

@@ -3,15 +3,11 @@ ghost use Rattle.pages.specs.Promise.{LandedStays};
 ghost use Rattle.pages.specs.Store.{Alike};
 
 // What has landed stays, whatever a stop leaves of a write elsewhere, and whatever becomes of the other side.
-pub fn landed_stays() -> u8
+pub fn landed_stays()
     ensures { LandedStays }
-{
-    0
-}
+{}
 
 // When power has come up both sides hold the same, and losing either loses nothing.
-pub fn power_mends() -> u8
+pub fn power_mends()
     ensures { Alike }
-{
-    0
-}
+{}

@@ -1,17 +1,18 @@
 // Power comes up: both devices are brought to be alike. Every step may be the last before a stop, and then all begins anew.
-ghost use Rattle.std.specs.Prelude.{◌≡◌, ◌<◌, ◌≤◌, length, IfSome};
+ghost use Rattle.std.specs.Prelude.{◌≡◌, ◌≤◌, IfSome};
 ghost use Rattle.pages.specs.Deeds.{Bounded};
-ghost use Rattle.pages.specs.Waking.{awaits_header, begun, copied_from, going, hears, heard_head, page_of, next_of, replayed_from, steady, wiped_from};
+ghost use Rattle.pages.specs.Waking.{awaits_header, begun, copied_from, fetched, going, hears, heard_head, page_of, next_of, in_range, replayed_from, wiped_from};
 
-use crate::deed::{Content, Deed};
-use crate::heads::{Source, choose, home, read_header, slot};
+use crate::Page;
+use crate::deed::{Content, Deed, Step};
+use crate::heads::{Header, Source, choose, home, read_header, slot};
+use crate::side::Side;
 
 // What is awaited.
-#[derive(Clone, Copy)]
+#[derive(Clone, Copy, Debug, PartialEq, Eq)]
 pub enum Stage {
     // The header of the first device, then of the second.
-    FirstHeader,
-    SecondHeader,
+    Header(Side),
     // The header on the second device, which was one commit behind or alike.
     Mending,
     // Blank pages on the first, then its header: a new store.
@@ -22,49 +23,42 @@ pub enum Stage {
     Copying,
     Heading,
     // The journal's pages to their homes, on each device from its own journal.
-    FirstSlot,
-    FirstHome,
-    SecondSlot,
-    SecondHome,
+    Slot(Side),
+    Home(Side),
 }
 
-#[derive(Clone, Copy)]
+#[derive(Clone, Copy, Debug, PartialEq, Eq)]
 pub struct Recovery {
     pub stage: Stage,
+    // Any number, as begin takes what it is given: the three that need fewer ask for it, since a bound here would narrow begin.
     pub pages: u64,
     // The page or the slot at hand.
     pub at: u64,
-    // The device that counts.
-    pub side: u64,
-}
-
-#[derive(Clone, Copy)]
-pub struct Move {
-    pub recovery: Recovery,
-    pub deed: Deed,
+    // The device that counts. Beside the stage and not in it: the machine keeps each in a number of its own, whatever the stage.
+    pub side: Side,
 }
 
 impl Recovery {
     // Of so many pages on each device.
-    pub fn begin(pages: u64) -> Move
+    pub fn begin(pages: u64) -> Step<Recovery>
         ensures { result ≡ begun pages }
     {
-        Move {
-            recovery: Recovery {
-                stage: Stage::FirstHeader,
+        Step {
+            state: Recovery {
+                stage: Stage::Header(Side::First),
                 pages,
                 at: 0,
-                side: 0,
+                side: Side::First,
             },
-            deed: Deed::Read(0, 0),
+            deed: Deed::Read(Side::First, 0),
         }
     }
 
-    fn going(self, stage: Stage, at: u64, side: u64, deed: Deed) -> Move
+    fn going(self, stage: Stage, at: u64, side: Side, deed: Deed) -> Step<Recovery>
         ensures { result ≡ going stage at side deed self }
     {
-        Move {
-            recovery: Recovery {
+        Step {
+            state: Recovery {
                 stage,
                 pages: self.pages,
                 at,
@@ -75,21 +69,30 @@ impl Recovery {
     }
 
     // Blank pages from one on.
-    fn wipe(self, k: u64) -> Move
+    fn wipe(self, k: u64) -> Step<Recovery>
         requires { self.pages ≤ 1048576 }
         ensures is { result ≡ wiped_from k self }
         ensures bounded { Bounded result.deed }
     {
         if self.pages > k {
-            return self.going(Stage::Wiping, k, 0, Deed::Write(0, k, Content::Blank));
+            return self.going(
+                Stage::Wiping,
+                k,
+                Side::First,
+                Deed::Write(Side::First, k, Content::Blank),
+            );
         }
-        self.going(Stage::Marking, 0, 0, Deed::Write(0, 0, Content::Header))
+        self.going(
+            Stage::Marking,
+            0,
+            Side::First,
+            Deed::Write(Side::First, 0, Content::Header),
+        )
     }
 
     // Pages copied from a device, from one on.
-    fn copy(self, side: u64, k: u64) -> Move
-        requires pages_bound { self.pages ≤ 1048576 }
-        requires side_bound { side ≤ 1 }
+    fn copy(self, side: Side, k: u64) -> Step<Recovery>
+        requires { self.pages ≤ 1048576 }
         ensures is { result ≡ copied_from side k self }
         ensures bounded { Bounded result.deed }
     {
@@ -100,70 +103,81 @@ impl Recovery {
             Stage::Heading,
             0,
             side,
-            Deed::Write(1 - side, 0, Content::Header),
+            Deed::Write(side.other(), 0, Content::Header),
         )
     }
 
+    // A page of a device's journal, to be put into its home.
+    fn fetch(self, side: Side, head: &Header, i: u64) -> Step<Recovery>
+        requires { i ≤ 1048577 }
+        ensures is { result ≡ fetched side head.now i self }
+        ensures bounded { Bounded result.deed }
+    {
+        let page = slot(head[1], i);
+        self.going(Stage::Slot(side), i, Side::First, Deed::Read(side, page))
+    }
+
     // Journal pages to their homes, from one on.
-    fn replay(self, head: &[u64], i: u64) -> Move
-        requires head_len { length head.now ≡ 32 }
-        requires i_bound { i ≤ 1048577 }
+    fn replay(self, head: &Header, i: u64) -> Step<Recovery>
+        requires { i ≤ 1048577 }
         ensures is { result ≡ replayed_from head.now i self }
         ensures bounded { Bounded result.deed }
     {
         if i < head[2] {
-            return self.going(Stage::FirstSlot, i, 0, Deed::Read(0, slot(head[1], i)));
+            return self.fetch(Side::First, head, i);
         }
-        self.going(Stage::FirstHeader, 0, 0, Deed::Ready)
+        self.going(Stage::Header(Side::First), 0, Side::First, Deed::Ready)
     }
 
     // No number is out of its range.
-    fn is_steady(self, head: &[u64]) -> bool
-        ensures { result ≡ steady self head.now }
+    fn is_in_range(self) -> bool
+        ensures { result ≡ in_range self }
     {
-        self.pages <= 1048576 && self.at <= 1048576 && self.side <= 1 && head.len() == 32
+        self.pages <= 1048576 && self.at <= 1048576
     }
 
     // Is it a header that is awaited?
     pub fn is_header(self) -> bool
         ensures { result ≡ awaits_header self.stage }
     {
-        match self.stage {
-            Stage::FirstHeader => true,
-            Stage::SecondHeader => true,
-            _ => false,
-        }
+        matches!(self.stage, Stage::Header(_))
     }
 
     // A header came. `head` becomes its numbers, or those that both devices are to have.
-    pub fn header(self, head: &mut [u64], bytes: &[u8]) -> Move
-        requires head_len { length head.old ≡ 32 }
-        requires bytes_len { length bytes.now ≡ 512 }
-        requires pages_bound { self.pages ≤ 1048576 }
+    pub fn header(self, head: &mut Header, bytes: &Page) -> Step<Recovery>
+        requires { self.pages ≤ 1048576 }
         ensures is { result ≡ hears self.stage head.old bytes.now self }
         ensures head { head.new ≡ heard_head self.stage head.old bytes.now }
         ensures bounded { Bounded result.deed }
     {
-        let Stage::SecondHeader = self.stage else {
-            read_header(head, bytes);
-            return self.going(Stage::SecondHeader, 0, 0, Deed::Read(1, 0));
+        let Stage::Header(Side::Second) = self.stage else {
+            *head = read_header(bytes);
+            return self.going(
+                Stage::Header(Side::Second),
+                0,
+                Side::First,
+                Deed::Read(Side::Second, 0),
+            );
         };
-        let mut second = [0; 32];
-        read_header(&mut second, bytes);
-        match choose(head, &second) {
-            Source::Both => self.going(Stage::Mending, 0, 0, Deed::Write(1, 0, Content::Header)),
-            Source::First => self.copy(0, 1),
-            Source::Second => self.copy(1, 1),
+        match choose(head, &read_header(bytes)) {
+            Source::Both => self.going(
+                Stage::Mending,
+                0,
+                Side::First,
+                Deed::Write(Side::Second, 0, Content::Header),
+            ),
+            Source::Only(side) => self.copy(side, 1),
             Source::Neither => self.wipe(1),
         }
     }
 
-    // Any other page came.
-    pub fn page(self, head: &[u64]) -> Option<Move>
+    // Any other page came. Where `head` is no header or a number is out of its range, there is no next step.
+    pub fn page(self, head: &[u64]) -> Option<Step<Recovery>>
         ensures is { result ≡ page_of self head.now }
         ensures bounded { IfSome result (λ v. Bounded v.deed) }
     {
-        if !self.is_steady(head) {
+        let head: &Header = head.try_into().ok()?;
+        if !self.is_in_range() {
             return None;
         }
         match self.stage {
@@ -171,51 +185,37 @@ impl Recovery {
                 Stage::Copying,
                 self.at,
                 self.side,
-                Deed::Write(1 - self.side, self.at, Content::Told),
+                Deed::Write(self.side.other(), self.at, Content::Told),
             )),
-            Stage::FirstSlot => {
+            Stage::Slot(side) => {
                 let page = home(head, self.at)?;
                 Some(self.going(
-                    Stage::FirstHome,
+                    Stage::Home(side),
                     self.at,
-                    0,
-                    Deed::Write(0, page, Content::Told),
-                ))
-            }
-            Stage::SecondSlot => {
-                let page = home(head, self.at)?;
-                Some(self.going(
-                    Stage::SecondHome,
-                    self.at,
-                    0,
-                    Deed::Write(1, page, Content::Told),
+                    Side::First,
+                    Deed::Write(side, page, Content::Told),
                 ))
             }
             _ => None,
         }
     }
 
-    // The last act is done.
-    pub fn next(self, head: &[u64]) -> Option<Move>
+    // The last act is done. Where `head` is no header or a number is out of its range, there is no next step.
+    pub fn next(self, head: &[u64]) -> Option<Step<Recovery>>
         ensures is { result ≡ next_of self head.now }
         ensures bounded { IfSome result (λ v. Bounded v.deed) }
     {
-        if !self.is_steady(head) {
+        let head: &Header = head.try_into().ok()?;
+        if !self.is_in_range() {
             return None;
         }
         match self.stage {
             Stage::Wiping => Some(self.wipe(self.at + 1)),
-            Stage::Marking => Some(self.copy(0, 1)),
+            Stage::Marking => Some(self.copy(Side::First, 1)),
             Stage::Copying => Some(self.copy(self.side, self.at + 1)),
-            Stage::FirstHome => Some(self.going(
-                Stage::SecondSlot,
-                self.at,
-                0,
-                Deed::Read(1, slot(head[1], self.at)),
-            )),
-            Stage::SecondHome => Some(self.replay(head, self.at + 1)),
-            Stage::Mending => Some(self.replay(head, 0)),
-            Stage::Heading => Some(self.replay(head, 0)),
+            Stage::Home(Side::First) => Some(self.fetch(Side::Second, head, self.at)),
+            Stage::Home(Side::Second) => Some(self.replay(head, self.at + 1)),
+            Stage::Mending | Stage::Heading => Some(self.replay(head, 0)),
             _ => None,
         }
     }

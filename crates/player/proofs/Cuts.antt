@@ -1,10 +1,12 @@
 -- What a side's bytes and its pages have to do with each other. Assumes nothing.
-use Rattle.std.proofs.Common.{◌≡◌, ℕ, zero, suc, ◌+◌, ◌-◌, ◌*◌, ◌/◌, ◌<◌, ◌≤◌, List, [], ◌∷◌, ◌++◌, length, take, drop, replicate, sym, refl, ap, ◌∙◌, append_assoc, arith, length-append, length-drop, take-append-drop, length-take-le}
+use Rattle.std.proofs.Common.{◌≡◌, ℕ, zero, suc, ◌+◌, ◌-◌, ◌*◌, ◌/◌, ◌<◌, ◌≤◌, List, [], ◌∷◌, ◌++◌, length, take, drop, replicate, min, inl, inr, sym, refl, ap, ◌∙◌, append_assoc, arith, length-append, length-drop, take-append-drop, length-take-le}
 use borrow.Rule.Slice.PartMut.{put_mid}
-use Rattle.std.proofs.lemmas.List.{drop-drop, take_at, drop_at, drop-append-le, drop-take, take-replicate, drop-replicate, length-replicate}
+use Rattle.std.proofs.lemmas.List.{drop-drop, drop_all, length-take, take_all, take_at, drop_at, drop-append-le, drop-take, take-replicate, drop-replicate, length-replicate}
+use Rattle.std.proofs.lemmas.Bool.{cases_lt}
+use Rattle.std.proofs.Math.Nat.{min_comm, min-eq_left}
 use Rattle.std.proofs.lemmas.Slice.{take-put_mid_below}
-use Rattle.pages.specs.Device.{Page, blank, half, page_at, set_page, zeros}
-use Rattle.player.specs.Sides.{cut, in_pages}
+use Rattle.pages.specs.Device.{Page, blank, page_at, set_page, zeros}
+use Rattle.player.specs.Sides.{cut, front, in_pages}
 
 pub page_in : (n : ℕ) (bs : List ℕ) (k : ℕ) → k < n → page_at (cut n bs) k ≡ take 512 (drop (512 * k) bs)
 unfolding cut page_at
@@ -82,27 +84,27 @@ put_is bs bs₁ k p h e is =
     ∙ ap (λ n. cut (n / 512) (put_mid (512 * k) 512 bs p)) (length_put (512 * k) bs p fits e)
     ∙ set_in (length bs / 512) bs k p h long e
 
--- a half is put into its place, and with it the other half stays
-halves : (r : List ℕ) → drop 256 r ≡ drop 256 (take 512 r) ++ drop 512 r
-halves r =
-    sym (take-append-drop 256 (drop 256 r))
-    ∙ (λ i. sym (drop-take 256 256 r) i ++ drop-drop 256 256 r i)
+-- the first bytes are put into their place, and the others stay
+rest_of : (n : ℕ) (r : List ℕ) → n ≤ 512 → drop n r ≡ drop n (take 512 r) ++ drop 512 r
+rest_of n r h =
+    let e : n + (512 - n) ≡ 512 = omega arith in
+    sym (take-append-drop (512 - n) (drop n r))
+    ∙ (λ i. (sym (drop-take n (512 - n) r) ∙ ap (λ m. drop n (take m r)) e) i ++ (drop-drop (512 - n) n r ∙ ap (λ m. drop m r) e) i)
 
-pub torn_is : (bs bs₁ : List ℕ) (k : ℕ) (p : Page) → k < length bs / 512 → length p ≡ 512 → bs₁ ≡ put_mid (512 * k) 256 bs (take 256 p)
-    → in_pages bs₁ ≡ set_page (in_pages bs) k (half p (page_at (in_pages bs) k))
-unfolding half
-torn_is bs bs₁ k p h e is =
+pub front_is : (n : ℕ) (bs bs₁ : List ℕ) (k : ℕ) (p : Page) → n ≤ 512 → k < length bs / 512 → length p ≡ 512 → bs₁ ≡ put_mid (512 * k) n bs (take n p)
+    → in_pages bs₁ ≡ set_page (in_pages bs) k (front n p (page_at (in_pages bs) k))
+front_is n bs bs₁ k p few h e is =
     let fits : 512 * k + 512 ≤ length bs = omega arith in
     let rest : length (drop (512 * k) bs) ≡ length bs - 512 * k = length-drop (512 * k) bs in
     let page : length (take 512 (drop (512 * k) bs)) ≡ 512 = length-take-le 512 (drop (512 * k) bs) (omega arith) in
     let old = take 512 (drop (512 * k) bs) in
-    let new : length (take 256 p) ≡ 256 = length-take-le 256 p (omega arith) in
-    let whole : length (take 256 p ++ drop 256 old) ≡ 512 = simp (length-append, length-drop) (omega arith) in
-    let same : put_mid (512 * k) 256 bs (take 256 p) ≡ put_mid (512 * k) 512 bs (take 256 p ++ drop 256 old) =
+    let new : length (take n p) ≡ n = length-take-le n p (omega arith) in
+    let whole : length (take n p ++ drop n old) ≡ 512 = simp (length-append, length-drop) (omega arith) in
+    let same : put_mid (512 * k) n bs (take n p) ≡ put_mid (512 * k) 512 bs (take n p ++ drop n old) =
     ap (λ l. take (512 * k) bs ++ l)
-    (ap (λ l. take 256 p ++ l) (halves (drop (512 * k) bs)) ∙ sym (append_assoc (take 256 p) (drop 256 old) (drop 512 (drop (512 * k) bs)))) in
-    put_is bs bs₁ k (take 256 p ++ drop 256 old) h whole (is ∙ same)
-    ∙ ap (λ l. set_page (in_pages bs) k (take 256 p ++ drop 256 l)) (sym (page_in (length bs / 512) bs k h))
+    (ap (λ l. take n p ++ l) (rest_of n (drop (512 * k) bs) few) ∙ sym (append_assoc (take n p) (drop n old) (drop 512 (drop (512 * k) bs)))) in
+    put_is bs bs₁ k (take n p ++ drop n old) h whole (is ∙ same)
+    ∙ ap (λ l. set_page (in_pages bs) k (take n p ++ drop n l)) (sym (page_in (length bs / 512) bs k h))
 
 pub blank_is : (bs bs₁ : List ℕ) → bs₁ ≡ replicate (length bs) 0 → in_pages bs₁ ≡ blank (length (in_pages bs))
 blank_is bs bs₁ is =
@@ -111,3 +113,19 @@ blank_is bs bs₁ is =
     ∙ ap (λ n. cut (n / 512) (replicate (length bs) 0)) (length-replicate (length bs) 0)
     ∙ cut_zeros (length bs / 512) (length bs) long
     ∙ ap blank (sym (length_cut (length bs / 512) bs))
+
+-- no page is longer than a page
+pub page_short : (n : ℕ) (bs : List ℕ) (k : ℕ) → length (page_at (cut n bs) k) ≤ 512
+unfolding cut page_at
+page_short zero bs k = omega arith
+page_short (suc n) bs zero = simp length-take (omega arith)
+page_short (suc n) bs (suc k) = page_short n (drop 512 bs) k
+
+-- of a page no more can come than the page
+pub front_most : (n : ℕ) (p old : Page) → length p ≡ 512 → length old ≤ 512 → front (min n 512) p old ≡ front n p old
+front_most n p old h l = elim (cases_lt n 512) [ inl few ↦ ap (λ m. front m p old) (min-eq_left (omega arith)) | inr many ↦ whole (omega arith) ]
+  where
+    whole : 512 ≤ n → front (min n 512) p old ≡ front n p old
+    whole many =
+        ap (λ m. front m p old) (min_comm n 512 ∙ min-eq_left many)
+        ∙ (λ i. (take_all 512 p (omega arith) ∙ sym (take_all n p (omega arith))) i ++ (drop_all 512 old l ∙ sym (drop_all n old (omega arith))) i)

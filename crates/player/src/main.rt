@@ -16,6 +16,7 @@ fn play(rt: &HostRuntime) -> io::Result<()> {
     let mut output = rt.stdout();
     let mut player = Player::new(rt.alloc());
     let mut line = Vec::new(rt.alloc());
+    // Counted, since a loop has to be seen to end; no input has so many lines.
     for _ in 0..u64::MAX {
         line.clear();
         if input.read_until(b'\n', &mut line)? == 0 {

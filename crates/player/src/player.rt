@@ -1,5 +1,5 @@
 // Plays a script line by line, on the house that its last `pages` made.
-use crate::run::House;
+use crate::run::{Answer, House};
 use crate::script::{Bad, Line, read_line};
 use std::alloc::Global;
 use std::io;
@@ -11,7 +11,7 @@ pub struct Player {
     house: Option<House>,
     lines: u64,
     // What the last line was answered.
-    answer: Vec<u8>,
+    answer: Answer,
 }
 
 impl Player {
@@ -20,19 +20,21 @@ impl Player {
             heap,
             house: None,
             lines: 0,
-            answer: Vec::new(heap),
+            answer: Answer {
+                text: Vec::new(heap),
+            },
         }
     }
 
     // The answer to the next line.
     pub fn answer(&mut self, line: &[u8]) -> io::Result<&[u8]> {
         self.lines = self.lines.saturating_add(1);
-        self.answer.clear();
+        self.answer.text.clear();
         if let Err(why) = self.play(line) {
             let n = self.lines;
-            writeln!(self.answer, "bad line {n}: {why}")?;
+            writeln!(self.answer.text, "bad line {n}: {why}")?;
         }
-        Ok(self.answer.as_slice())
+        Ok(self.answer.text.as_slice())
     }
 
     fn play(&mut self, line: &[u8]) -> Result<(), Bad> {

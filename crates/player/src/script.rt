@@ -1,26 +1,48 @@
 // A line of a script: what is to happen next.
+ghost use Rattle.player.specs.Held.{Leaves};
+
+use host::files::is_house;
 use pages::hex;
 use std::alloc::{AllocError, Global};
+use std::error::Error;
 use std::str::SplitWhitespace;
 use std::{fmt, io};
 
-pub const FEWEST: u64 = 256;
+// How much of the write under way a stop leaves.
+#[derive(Clone, Copy, Debug, PartialEq, Eq)]
+pub enum Left {
+    Nothing,
+    All,
+    Half,
+}
 
-pub const MOST: u64 = 1_048_576;
+// 1 stands for all and 2 for half of it, and any other number for nothing.
+impl From<u64> for Left {
+    ghost from_gives = { λ number left. Leaves number left };
+
+    fn from(number: u64) -> Left {
+        match number {
+            1 => Left::All,
+            2 => Left::Half,
+            _ => Left::Nothing,
+        }
+    }
+}
 
 #[derive(Drop)]
 pub enum Item {
     Power,
     PowerStops {
         acts: u64,
-        left: u64,
+        left: Left,
     },
     Whole(Vec<u8>),
     Stops {
         command: Vec<u8>,
         acts: u64,
-        left: u64,
+        left: Left,
     },
+    // The script's number: of a side that there is not it is improper.
     Loses(u64),
 }
 
@@ -33,7 +55,7 @@ pub enum Line {
     Item(Item),
 }
 
-#[derive(Clone, Copy, Debug)]
+#[derive(Clone, Copy, Debug, PartialEq, Eq)]
 pub enum Bad {
     NotText,
     NoSuchWord,
@@ -64,6 +86,8 @@ impl fmt::Display for Bad {
     }
 }
 
+impl Error for Bad {}
+
 impl From<AllocError> for Bad {
     fn from(_e: AllocError) -> Bad {
         Bad::NoMemory
@@ -78,9 +102,7 @@ impl From<io::Error> for Bad {
 }
 
 pub fn read_line(heap: Global, line: &[u8]) -> Result<Line, Bad> {
-    let Ok(text) = std::str::from_utf8(line) else {
-        return Err(Bad::NotText);
-    };
+    let text = std::str::from_utf8(line).map_err(|_| Bad::NotText)?;
     let mut words = text.split_whitespace();
     let Some(first) = words.next() else {
         return Ok(Line::Nothing);
@@ -103,13 +125,13 @@ fn read_item(heap: Global, first: &str, words: &mut SplitWhitespace<'_>) -> Resu
         "power" => Ok(Item::Power),
         "power-stops" => Ok(Item::PowerStops {
             acts: number(words)?,
-            left: number(words)?,
+            left: Left::from(number(words)?),
         }),
         "whole" => Ok(Item::Whole(bytes(heap, words)?)),
         "stops" => Ok(Item::Stops {
             command: bytes(heap, words)?,
             acts: number(words)?,
-            left: number(words)?,
+            left: Left::from(number(words)?),
         }),
         "loses" => Ok(Item::Loses(number(words)?)),
         _ => Err(Bad::NoSuchWord),
@@ -118,28 +140,18 @@ fn read_item(heap: Global, first: &str, words: &mut SplitWhitespace<'_>) -> Resu
 
 fn some_pages(words: &mut SplitWhitespace<'_>) -> Result<usize, Bad> {
     let pages = number(words)?;
-    if pages < FEWEST || pages > MOST {
+    if !is_house(pages) {
         return Err(Bad::NotSoManyPages);
     }
     Ok(pages as usize)
 }
 
 fn number(words: &mut SplitWhitespace<'_>) -> Result<u64, Bad> {
-    let Some(word) = words.next() else {
-        return Err(Bad::TooFewWords);
-    };
-    match word.parse::<u64>() {
-        Ok(n) => Ok(n),
-        Err(_) => Err(Bad::NotANumber),
-    }
+    let word = words.next().ok_or(Bad::TooFewWords)?;
+    word.parse::<u64>().map_err(|_| Bad::NotANumber)
 }
 
 fn bytes(heap: Global, words: &mut SplitWhitespace<'_>) -> Result<Vec<u8>, Bad> {
-    let Some(word) = words.next() else {
-        return Err(Bad::TooFewWords);
-    };
-    match hex::read(heap, word.as_bytes())? {
-        Some(bytes) => Ok(bytes),
-        None => Err(Bad::NotHex),
-    }
+    let word = words.next().ok_or(Bad::TooFewWords)?;
+    hex::read(heap, word.as_bytes())?.ok_or(Bad::NotHex)
 }

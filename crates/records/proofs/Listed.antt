@@ -1,16 +1,17 @@
 -- The commands with lists of people, and zones.
-use Rattle.std.proofs.Common.{◌≡◌, ℕ, ◌+◌, ◌<◌, ◌≤◌, Bool, true, false, cond, ◌&&◌, eqb, ltb, List, [], ◌∷◌, ◌++◌, length, drop, Some, None, sym, refl, ap, ◌∙◌, arith}
+use Rattle.std.proofs.Common.{◌≡◌, ℕ, ◌+◌, ◌<◌, ◌≤◌, Bool, true, false, cond, ◌&&◌, eqb, ltb, List, [], ◌∷◌, ◌++◌, length, drop, Some, None, sym, refl, ap, ◌∙◌, subst, arith}
 use Rattle.std.proofs.lemmas.Bool.{lt-ltb, ltb-true, le-leb, leb-true, and_from, and_parts}
 use Rattle.std.proofs.lemmas.List.{append-nil, append_assoc}
 use Rattle.std.proofs.lemmas.Bool.Decides.{nat_tests}
 use Rattle.pages.specs.Bytes.{all_bytes, eight}
 use Rattle.dates.specs.Zone.{Zone as MeantZone}
 use Rattle.dates.specs.Limits.{a_zone}
+use Rattle.dates.specs.declared.zone.Sunday.{Sunday}
 use Rattle.dates.specs.declared.zone.Zone.{Zone}
 use Rattle.records.specs.Command.{zone, busy_times, free, spelled, fits, zone_spelled, numbers, some_people}
 use Rattle.records.specs.declared.command.Command.{Command}
 use Rattle.records.specs.declared.command.Command.TheVariants.{SetZone, Busy, Free}
-use Rattle.records.specs.Reader.{a_place, find_zone, find_busy, find_free, zone_of}
+use Rattle.records.specs.Reader.{a_place, sunday, find_zone, find_busy, find_free, zone_of}
 use Rattle.records.proofs.Fields.{Spelt, onto, closed, Back, went, wide_only, wide_back, narrow_only, narrow_back, ended_only, ended_back}
 use Rattle.records.proofs.Lists.{steps, steps_from, steps_rising, steps_every, row_only, row_back}
 use Rattle.records.proofs.Simple.{Good, Found, stretch_only, stretch_of, stretch_back}
@@ -24,9 +25,38 @@ people_steps ps h =
     let p = and_parts _ _ (and_parts _ _ h).0 in
     steps_from (λ a. ltb a 256) 0 255 (λ n e. omega arith) (λ n e. let l : n < 256 = ltb-true n 256 e in omega arith) ps p.0 p.1
 
+some_is : {A : Type 0} {v z : A} → Some v ≡ Some z → v ≡ z
+some_is e = cc
+
 not_kept : {A : Type 0} (b : Bool) (v z : A) → cond b None (Some v) ≡ Some z → (b ≡ false) × (v ≡ z)
 not_kept true v z h = absurd (let no : ◌≡◌ {A = ℕ} 0 1 = cc in omega arith)
 not_kept false v z h = (refl, cc)
+
+-- a month and a week of it
+pub record SundayRead (t : List ℕ) (k : ℕ) (x : Sunday × ℕ) : Type 0 where
+  pub spelt : Spelt (x.0.month ∷ x.0.week ∷ []) t k x.1
+  pub month_low : 1 ≤ x.0.month
+  pub month_high : x.0.month ≤ 12
+  pub week_low : 1 ≤ x.0.week
+  pub week_high : x.0.week ≤ 5
+
+sunday_only : (t : List ℕ) (k : ℕ) (x : Sunday × ℕ) → sunday t k ≡ Some x → SundayRead t k x
+unfolding sunday
+sunday_only t k x e =
+    let m = went _ _ _ e in
+    let wm = narrow_only 1 12 t k m.got m.was in
+    let w = went _ _ _ m.goes in
+    let ww = narrow_only 1 5 t m.got.1 w.got w.was in
+    let all : SundayRead t k (record { month = m.got.0; week = w.got.0 }, w.got.1) =
+    record { spelt = onto wm.spelt ww.spelt; month_low = wm.low; month_high = wm.high; week_low = ww.low; week_high = ww.high } in
+    subst (SundayRead t k) (some_is w.goes) all
+
+sunday_back : (t r : List ℕ) (k : ℕ) (s : Sunday) → drop k t ≡ s.month ∷ s.week ∷ r → 1 ≤ s.month → s.month ≤ 12 → 1 ≤ s.week → s.week ≤ 5 → Back (sunday t k) s r t (k + 1 + 1)
+unfolding sunday
+sunday_back t r k s e m1 m2 w1 w2 =
+    let m = narrow_back 1 12 t (s.week ∷ r) k s.month e m1 m2 in
+    let w = narrow_back 1 5 t r (k + 1) s.week m.rest w1 w2 in
+    record { reads = rw (m.reads, w.reads); rest = w.rest; fit = w.fit }
 
 pub record PlaceRead (t : List ℕ) (k : ℕ) (x : Zone × ℕ) : Type 0 where
   pub spelt : Spelt (zone_spelled (zone_of x.0)) t k x.1
@@ -38,21 +68,18 @@ place_only t k x h e =
     let wa = wide_only 0 1560 t k a.got h a.was in
     let b = went _ _ _ a.goes in
     let wb = wide_only 0 120 t a.got.1 b.got h b.was in
-    let m = went _ _ _ b.goes in
-    let wm = narrow_only 1 12 t b.got.1 m.got m.was in
-    let w = went _ _ _ m.goes in
-    let ww = narrow_only 1 5 t m.got.1 w.got w.was in
-    let n = went _ _ _ w.goes in
-    let wn = narrow_only 1 12 t w.got.1 n.got n.was in
-    let v = went _ _ _ n.goes in
-    let wv = narrow_only 1 5 t n.got.1 v.got v.was in
-    let d = went _ _ _ v.goes in
-    let wd = wide_only 0 1439 t v.got.1 d.got h d.was in
+    let s = went _ _ _ b.goes in
+    let ws = sunday_only t b.got.1 s.got s.was in
+    let u = went _ _ _ s.goes in
+    let wu = sunday_only t s.got.1 u.got u.was in
+    let d = went _ _ _ u.goes in
+    let wd = wide_only 0 1439 t u.got.1 d.got h d.was in
     let c = not_kept _ _ _ d.goes in
-    let all : PlaceRead t k (record { east = a.got.0; extra = b.got.0; begins = record { month = m.got.0; week = w.got.0 }; ends = record { month = n.got.0; week = v.got.0 }; minute = d.got.0 }, d.got.1) =
+    let all : PlaceRead t k (record { east = a.got.0; extra = b.got.0; begins = s.got.0; ends = u.got.0; minute = d.got.0 }, d.got.1) =
     record {
-      spelt = onto (onto wa.spelt wb.spelt) (onto wm.spelt (onto ww.spelt (onto wn.spelt (onto wv.spelt wd.spelt))));
-      fit = zone_fits a.got.0 b.got.0 m.got.0 w.got.0 n.got.0 v.got.0 d.got.0 wa.high wb.high wm.low wm.high ww.low ww.high wn.low wn.high wv.low wv.high wd.high c.0;
+      spelt = onto (onto wa.spelt wb.spelt) (onto ws.spelt (onto wu.spelt wd.spelt));
+      fit = zone_fits a.got.0 b.got.0 s.got.0.month s.got.0.week u.got.0.month u.got.0.week d.got.0 wa.high wb.high
+          ws.month_low ws.month_high ws.week_low ws.week_high wu.month_low wu.month_high wu.week_low wu.week_high wd.high c.0;
     } in
     rw c.1 at all
   where
@@ -147,12 +174,10 @@ place_back t r k z e h =
     let e1 = e ∙ regroup_3 (eight z.east) (eight z.extra) (z.from_month ∷ z.from_week ∷ z.to_month ∷ z.to_week ∷ eight z.at) r in
     let w1 = wide_back 0 1560 t _ k z.east e1 (omega arith) b.east (omega arith) in
     let w2 = wide_back 0 120 t _ (k + 8) z.extra w1.rest (omega arith) b.extra (omega arith) in
-    let w3 = narrow_back 1 12 t _ (k + 8 + 8) z.from_month w2.rest b.m1 b.m2 in
-    let w4 = narrow_back 1 5 t _ (k + 8 + 8 + 1) z.from_week w3.rest b.w1 b.w2 in
-    let w5 = narrow_back 1 12 t _ (k + 8 + 8 + 1 + 1) z.to_month w4.rest b.n1 b.n2 in
-    let w6 = narrow_back 1 5 t _ (k + 8 + 8 + 1 + 1 + 1) z.to_week w5.rest b.v1 b.v2 in
-    let w7 = wide_back 0 1439 t r (k + 8 + 8 + 1 + 1 + 1 + 1) z.at w6.rest (omega arith) b.at (omega arith) in
-    record { reads = rw (w1.reads, w2.reads, w3.reads, w4.reads, w5.reads, w6.reads, w7.reads, b.turn); rest = w7.rest; fit = w7.fit }
+    let w3 = sunday_back t _ (k + 8 + 8) (place_of z).begins w2.rest b.m1 b.m2 b.w1 b.w2 in
+    let w4 = sunday_back t _ (k + 8 + 8 + 1 + 1) (place_of z).ends w3.rest b.n1 b.n2 b.v1 b.v2 in
+    let w5 = wide_back 0 1439 t r (k + 8 + 8 + 1 + 1 + 1 + 1) z.at w4.rest (omega arith) b.at (omega arith) in
+    record { reads = rw (w1.reads, w2.reads, w3.reads, w4.reads, w5.reads, b.turn); rest = w5.rest; fit = w5.fit }
 
 pub zone_back : (t : List ℕ) (k : ℕ) (z : MeantZone) → drop 1 t ≡ k ∷ zone_spelled z → fits (zone k z) ≡ true → Found (find_zone t) t (zone k z)
 unfolding fits

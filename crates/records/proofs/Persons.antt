@@ -1,8 +1,9 @@
 -- People's records on a page, and names found page by page.
-use Rattle.std.proofs.Common.{◌≡◌, ℕ, zero, suc, ◌+◌, ◌-◌, ◌*◌, ◌/◌, ◌%◌, ◌<◌, ◌≤◌, min, Bool, true, false, leb, List, [], ◌∷◌, ◌++◌, length, get_or, take, drop, replicate, Decides, sym, refl, ap, ◌∙◌, ap₂, ⊎_elim, arith, take-add, rules}
+use Rattle.std.proofs.Common.{◌≡◌, ℕ, zero, suc, ◌+◌, ◌-◌, ◌*◌, ◌/◌, ◌%◌, ◌<◌, ◌≤◌, min, Bool, true, false, ◌||◌, leb, List, [], ◌∷◌, ◌++◌, length, get_or, take, drop, replicate, Decides, sym, refl, ap, ◌∙◌, ap₂, arith, take-add, rules}
 use borrow.Rule.Slice.PartMut.{put_mid}
-use Rattle.std.proofs.lemmas.List.{append_assoc, take_all, take_rest, take-take, take_at, take-replicate, drop-drop, drop_at, drop-take, drop-replicate, length-take, length-drop}
-use Rattle.std.proofs.lemmas.Bool.{leb-true, leb-false, cases_lt}
+use Rattle.std.specs.List.{list_any, range_with_len}
+use Rattle.std.proofs.lemmas.List.{append_assoc, take_all, take_rest, take-take, take_at, take-replicate, drop-drop, drop_at, drop-take, drop-replicate, length-take, length-drop, take_min}
+use Rattle.std.proofs.lemmas.Bool.{leb-true, leb-false}
 use Rattle.std.proofs.lemmas.Slice.Eq.{compares_Decides}
 use Rattle.pages.specs.Lists.{pick, or, any, same}
 use Rattle.pages.specs.Bytes.{in_bytes, eight, from_eight, placed}
@@ -12,6 +13,7 @@ use Rattle.pages.proofs.ByteLists.{length_eight}
 use Rattle.pages.proofs.Fields.{in_bytes_append, length_in_bytes, length_fields, length_pad}
 use Rattle.pages.proofs.Placed.{Wrote, and_more, placed_bytes}
 use Rattle.recurrence.specs.Span.{days_from}
+use Rattle.records.proofs.SheetBytes.{zeros_are}
 use Rattle.records.specs.Does.{new_root, block, put_block, new_record, new_person, record_in, name_in, names_in, names_on, names_from}
 
 -- a number of fewer bytes than eight
@@ -38,6 +40,9 @@ block_placed (suc r) b p l =
 pub block_part : (r : ℕ) (p : Page) → take (length p - 128 * r) (drop (128 * r) p) ≡ block r p
 block_part r p = take_rest p (128 * r) ∙ sym (block_drop r p)
 
+pub page_block : (n r : ℕ) (p : Page) → length p ≡ n → take (n - 128 * r) (drop (128 * r) p) ≡ block r p
+page_block n r p e = rw (← e) (block_part r p)
+
 -- a record lent and filled is that record on the page
 pub block_filled : (r m : ℕ) (b p ys : List ℕ) → length b ≡ 128 → m ≡ 128 → ys ≡ b → put_mid (128 * r) m p ys ≡ put_block r b p
 block_filled r m b p ys l e y = placed_bytes (128 * r) m b p ys (e ∙ sym l) y ∙ sym (block_placed r b p l)
@@ -45,8 +50,24 @@ block_filled r m b p ys l e y = placed_bytes (128 * r) m b p ys (e ∙ sym l) y 
 abbrev pub named : Page → List ℕ → ℕ → Bool
 named p name a = same (name_in (block a p)) name
 
-pub named_part : (p : Page) (name : List ℕ) (a : ℕ) (t : Bool) → t ≡ same (name_in (take (length p - 128 * a) (drop (128 * a) p))) name → named p name a ≡ t
-named_part p name a t e = ap (λ r. same (name_in r) name) (sym (block_part a p)) ∙ sym e
+or_is : (a b : Bool) → (a || b) ≡ or a b
+or_is true b = refl
+or_is false b = refl
+
+-- names of records read from the page's bytes on
+abbrev read : Page → List ℕ → ℕ → Bool
+read p name a = same (name_in (take (512 - 128 * a) (drop (128 * a) p))) name
+
+names_read : (p : Page) (name : List ℕ) (a n : ℕ) → length p ≡ 512 → list_any (read p name) (range_with_len a n) ≡ any (named p name) (days_from a n)
+unfolding days_from
+names_read p name a zero e = refl
+names_read p name a (suc n) e =
+    let s : a + 1 ≡ suc a = omega arith in
+    or_is (read p name a) _ ∙ ap₂ or (ap (λ r. same (name_in r) name) (page_block 512 a p e)) (ap (λ k. list_any (read p name) (range_with_len k n)) s ∙ names_read p name (suc a) n e)
+
+pub names_found : (p : Page) (name : List ℕ) (n : ℕ) → length p ≡ 512 → list_any (λ a. same (name_in (take (512 - 128 * a) (drop (128 * a) p))) name) (range_with_len 0 n) ≡ names_on p n name
+unfolding names_on
+names_found p name n e = names_read p name 0 n e
 
 -- NUMBERS AND NAMES WRITTEN
 three : (j k l a b c : ℕ) (r : List ℕ) → in_bytes j a [] ++ in_bytes k b [] ++ in_bytes l c [] ++ r ≡ fields (fd j a ∷ fd k b ∷ fd l c ∷ []) r
@@ -75,11 +96,6 @@ one_byte : (n : ℕ) → n < 256 → in_bytes 1 n [] ≡ n ∷ []
 unfolding in_bytes
 one_byte n h = let e : n % 256 ≡ n = omega arith in rw e
 
-zeros_are : (n : ℕ) → zeros n ≡ replicate n 0
-unfolding zeros
-zeros_are zero = refl
-zeros_are (suc n) = ap (λ z. 0 ∷ z) (zeros_are n)
-
 name_padded : (name : List ℕ) → length name ≤ 64 → name ++ drop (13 + length name) (replicate 128 0) ≡ pad 115 name
 unfolding pad
 name_padded name h =
@@ -87,7 +103,7 @@ name_padded name h =
     let m : n + (115 - n) ≡ 115 = omega arith in
     let k : 128 - (13 + n) ≡ 115 - n = omega arith in
     let z : drop (13 + n) (replicate 128 0) ≡ take (115 - n) (zeros 115) =
-    drop-replicate (13 + n) 128 0 ∙ ap (λ i. replicate i 0) k ∙ sym (ap (take (115 - n)) (zeros_are 115) ∙ take-replicate (115 - n) 115 0 (omega arith)) in
+    drop-replicate (13 + n) 128 0 ∙ ap (λ i. replicate i 0) k ∙ sym (ap (take (115 - n)) (sym (zeros_are 115)) ∙ take-replicate (115 - n) 115 0 (omega arith)) in
     let t = take-add n (115 - n) (name ++ zeros 115) in
     sym (rw (m, take_at name (zeros 115) n refl, drop_at name (zeros 115) n refl) at t ∙ ap (λ u. name ++ u) (sym z))
 
@@ -144,12 +160,8 @@ length_record r n h p l =
     length_fields _ _ ∙ rw (block_drop r p) (simp (length-take, length-drop) (omega arith))
 
 -- NAMES COMPARED
-take_few : (n m : ℕ) (xs : List ℕ) → m ≡ min n (length xs) → take m xs ≡ take n xs
-take_few n m xs e =
-    ⊎_elim (λ l. let q : m ≡ n = omega arith in rw q) (λ l. take_all m xs (omega arith) ∙ sym (take_all n xs (omega arith))) (cases_lt n (length xs))
-
 pub name_cut : (r : List ℕ) (m : ℕ) → m ≡ min (at 0 1 r) (length r - 13) → take m (drop 13 r) ≡ name_in r
-name_cut r m e = take_few (at 0 1 r) m (drop 13 r) (simp length-drop e)
+name_cut r m e = let l : m ≡ min (at 0 1 r) (length (drop 13 r)) = simp length-drop e in ap (λ k. take k (drop 13 r)) l ∙ take_min (at 0 1 r) (drop 13 r)
 
 pub same_decided : (xs ys : List ℕ) (r : Bool) → Decides r (xs ≡ ys) → r ≡ same xs ys
 unfolding same
@@ -164,20 +176,7 @@ or_assoc : (a b c : Bool) → or a (or b c) ≡ or (or a b) c
 or_assoc true b c = refl
 or_assoc false b c = refl
 
--- one more turn of a loop, and its ends
-any_more : (f : ℕ → Bool) (i n : ℕ) → i < n → any f (days_from i (n - i)) ≡ or (f i) (any f (days_from (i + 1) (n - (i + 1))))
-unfolding days_from
-any_more f i n h =
-    let e : n - i ≡ suc (n - (i + 1)) = omega arith in
-    let s : suc i ≡ i + 1 = omega arith in
-    rw (e, s)
-
-pub any_passed : (f : ℕ → Bool) (i n : ℕ) → i < n → f i ≡ false → any f (days_from i (n - i)) ≡ any f (days_from (i + 1) (n - (i + 1)))
-any_passed f i n h e = any_more f i n h ∙ ap (λ t. or t (any f (days_from (i + 1) (n - (i + 1))))) e
-
-pub any_found : (f : ℕ → Bool) (i n : ℕ) → i < n → f i ≡ true → any f (days_from i (n - i)) ≡ true
-any_found f i n h e = any_more f i n h ∙ ap (λ t. or t (any f (days_from (i + 1) (n - (i + 1))))) e
-
+-- nobody from the end on
 pub any_end : (f : ℕ → Bool) (i n : ℕ) → n ≤ i → any f (days_from i (n - i)) ≡ false
 unfolding days_from
 any_end f i n h = let e : n - i ≡ 0 = omega arith in rw e

@@ -1,5 +1,5 @@
 -- The reader is right: a text is read as a command exactly when it spells it; and no two commands are spelled alike.
-use Rattle.std.proofs.Common.{◌≡◌, ℕ, ◌<◌, ◌≤◌, Bool, true, false, cond, ◌&&◌, eqb, ltb, List, [], ◌∷◌, ◌++◌, length, get_or, Some, None, Option, sym, refl, ap, ◌∙◌, subst, arith}
+use Rattle.std.proofs.Common.{◌≡◌, ℕ, ◌<◌, ◌≤◌, Bool, true, false, cond, ◌&&◌, eqb, ltb, List, [], ◌∷◌, ◌++◌, length, get_or, slice_get, Some, None, Option, sym, refl, ap, ◌∙◌, subst, arith}
 use Rattle.std.proofs.lemmas.Bool.{lt-ltb, ltb-true, leb-true, eqb-true, and_from, and_parts}
 use Rattle.pages.specs.Lists.{flat}
 use Rattle.pages.specs.Bytes.{all_bytes, eight, with_length}
@@ -174,11 +174,12 @@ spelled_once a c f g e =
     sym x.means ∙ ap (λ t. meant t x.got) e ∙ ap (meant (spelled c)) q ∙ y.means
 
 -- as the code goes: by the first byte, if there is one
-pub found_none : (t : List ℕ) → length t < 1 → found t ≡ None
+pub found_none : (t : List ℕ) → None ≡ slice_get t 0 → found t ≡ None
 unfolding found
-found_none [] h = refl
-found_none (b ∷ t) h = absurd (omega arith)
+found_none [] e = refl
+found_none (b ∷ t) e = absurd (let no : ◌≡◌ {A = ℕ} 0 1 = cc in omega arith)
 
-pub found_some : (t : List ℕ) → 1 ≤ length t → all_bytes t ≡ true → found t ≡ found_as (get_or t 0 0) t
+pub found_first : (t : List ℕ) (b : ℕ) → Some b ≡ slice_get t 0 → all_bytes t ≡ true → found t ≡ found_as b t
 unfolding found
-found_some t h b = rw (lt-ltb 0 (length t) (omega arith), b)
+found_first [] b e h = absurd (let no : ◌≡◌ {A = ℕ} 0 1 = cc in omega arith)
+found_first (a ∷ t) b e h = let q : a ≡ b = cc in rw (lt-ltb 0 (length (a ∷ t)) (omega arith), h) (ap (λ c. found_as c (a ∷ t)) q)

@@ -1,7 +1,7 @@
 -- Numbers written into a row and read from it, each in so many bytes.
 use Rattle.std.proofs.Common.{◌≡◌, ℕ, zero, suc, ◌+◌, ◌-◌, ◌*◌, ◌/◌, ◌%◌, ◌<◌, ◌≤◌, true, leb, List, [], ◌∷◌, ◌++◌, length, get_or, take, drop, set, replicate, sym, refl, ap, ◌∙◌, arith}
 use Rattle.std.proofs.lemmas.Bool.{leb-true, and_parts}
-use Rattle.std.proofs.lemmas.List.{append-nil, at_drop_more, drop_all, drop-drop, length-append, length-take, take_all}
+use Rattle.std.proofs.lemmas.List.{append-nil, at_drop_more, drop_all, drop-drop, drop-replicate, length-append, take_all, take-replicate}
 use Rattle.pages.specs.Lists.{added_up, every, flat}
 use Rattle.pages.specs.Bytes.{eight, from_eight, in_bytes, over, placed}
 use Rattle.pages.specs.Device.{zeros}
@@ -10,7 +10,7 @@ use Rattle.pages.proofs.Fields.{drop_in_bytes, in_bytes_append, length_in_bytes}
 use Rattle.pages.proofs.Placed.{more_at, placed_front, placed_none}
 use Rattle.records.specs.Layout.{fours}
 use Rattle.records.specs.Does.{read_threes, relink}
-use Rattle.records.specs.Sheets.{layout, threes}
+use Rattle.records.specs.Sheets.{laid, threes}
 
 -- the low bytes of a number
 low_in_bytes : (k w n : ℕ) (r : List ℕ) → drop k (in_bytes (w + k) n r) ≡ in_bytes w n r
@@ -31,23 +31,22 @@ one_more k j w n rest row row₁ h e q =
     let l : length (in_bytes w n []) ≡ w = length_in_bytes w n [] ∙ omega arith in
     more_at k j (in_bytes w n []) rest row row₁ (placed j rest row₁) h e (omega arith) refl ∙ ap (λ v. placed k v row) (in_bytes_append w n [] rest)
 
--- fields by widths and values
-pub every_at : (ws : List ℕ) (i : ℕ) → every (λ w. leb w 8) ws ≡ true → i < length ws → get_or ws i 0 ≤ 8
-every_at [] i h l = absurd (omega arith)
-every_at (w ∷ ws) zero h l = leb-true w 8 (and_parts _ _ h).0
-every_at (w ∷ ws) (suc i) h l = every_at ws i (and_parts _ _ h).1 (omega arith)
+-- fields by width and value
+pub every_at : (fs : List (ℕ × ℕ)) (i : ℕ) (d : ℕ × ℕ) → every (λ f. leb f.0 8) fs ≡ true → i < length fs → (get_or fs i d).0 ≤ 8
+every_at [] i d h l = absurd (omega arith)
+every_at (f ∷ fs) zero d h l = leb-true f.0 8 (and_parts _ _ h).0
+every_at (f ∷ fs) (suc i) d h l = every_at fs i d (and_parts _ _ h).1 (omega arith)
 
-pub widths_more : (ws : List ℕ) (i : ℕ) → i < length ws → added_up (λ w. w) (drop i ws) ≡ get_or ws i 0 + added_up (λ w. w) (drop (i + 1) ws)
-widths_more ws i h = at_drop_more (added_up (λ w. w)) ws i 0 h
+pub widths_more : (fs : List (ℕ × ℕ)) (i : ℕ) (d : ℕ × ℕ) → i < length fs → added_up (λ f. f.0) (drop i fs) ≡ (get_or fs i d).0 + added_up (λ f. f.0) (drop (i + 1) fs)
+widths_more fs i d h = at_drop_more (added_up (λ f. f.0)) fs i d h
 
-pub layout_more : (ws vs : List ℕ) (i : ℕ) → i < length ws → i < length vs →
-    fields (layout (drop i ws) (drop i vs)) [] ≡ in_bytes (get_or ws i 0) (get_or vs i 0) (fields (layout (drop (i + 1) ws) (drop (i + 1) vs)) [])
-unfolding fields layout
-layout_more ws vs i h l = at_drop_more (λ xs. fields (layout xs (drop i vs)) []) ws i 0 h ∙ at_drop_more (λ xs. fields (layout (get_or ws i 0 ∷ drop (i + 1) ws) xs) []) vs i 0 l
+pub laid_more : (fs : List (ℕ × ℕ)) (i : ℕ) (d : ℕ × ℕ) → i < length fs → fields (laid (drop i fs)) [] ≡ in_bytes (get_or fs i d).0 (get_or fs i d).1 (fields (laid (drop (i + 1) fs)) [])
+unfolding fields
+laid_more fs i d h = at_drop_more (λ xs. fields (laid xs) []) fs i d h
 
-pub layout_all : (ws vs row : List ℕ) (k i : ℕ) → length ws ≤ i → placed k (fields (layout (drop i ws) (drop i vs)) []) row ≡ row
-unfolding fields layout
-layout_all ws vs row k i h = rw (drop_all i ws h) (sym (placed_none k row))
+pub laid_all : (fs : List (ℕ × ℕ)) (row : List ℕ) (k i : ℕ) → length fs ≤ i → placed k (fields (laid (drop i fs)) []) row ≡ row
+unfolding fields
+laid_all fs row k i h = rw (drop_all i fs h) (sym (placed_none k row))
 
 -- places of four bytes
 fours_suc : (m i : ℕ) (as₁ r : List ℕ) → fours (suc m) (drop i as₁) r ≡ in_bytes 4 (get_or as₁ i 0) (fours m (drop (suc i) as₁) r)
@@ -78,24 +77,24 @@ pub length_threes : (ds : List ℕ) → length (threes ds) ≡ 3 * length ds
 length_threes [] = refl
 length_threes (d ∷ ds) = let i = length_threes ds in let q = length_in_bytes 3 d [] in length-append (in_bytes 3 d []) (flat (λ d. in_bytes 3 d []) ds) ∙ omega arith
 
-pub threes_more : (ds : List ℕ) (i : ℕ) → i < length ds → threes (drop i ds) ≡ in_bytes 3 (get_or ds i 0) (threes (drop (i + 1) ds))
-threes_more ds i h = at_drop_more threes ds i 0 h ∙ in_bytes_append 3 (get_or ds i 0) [] (threes (drop (i + 1) ds))
+-- numbers one behind the other, each in so many bytes
+pub all_more : (w : ℕ) (ns : List ℕ) (i : ℕ) → i < length ns → flat (λ n. in_bytes w n []) (drop i ns) ≡ in_bytes w (get_or ns i 0) (flat (λ n. in_bytes w n []) (drop (i + 1) ns))
+all_more w ns i h = at_drop_more (flat (λ n. in_bytes w n [])) ns i 0 h ∙ in_bytes_append w (get_or ns i 0) [] (flat (λ n. in_bytes w n []) (drop (i + 1) ns))
 
-pub threes_all : (ds row : List ℕ) (k i : ℕ) → length ds ≤ i → placed k (threes (drop i ds)) row ≡ row
-threes_all ds row k i h = rw (drop_all i ds h) (sym (placed_none k row))
+pub all_put : (w : ℕ) (ns row : List ℕ) (k i : ℕ) → length ns ≤ i → placed k (flat (λ n. in_bytes w n []) (drop i ns)) row ≡ row
+all_put w ns row k i h = rw (drop_all i ns h) (sym (placed_none k row))
 
 -- zeros, and bytes brought to a length
-take_zeros : (m n : ℕ) → m ≤ n → take m (zeros n) ≡ zeros m
+pub zeros_are : (n : ℕ) → replicate n 0 ≡ zeros n
 unfolding zeros
-take_zeros zero n h = refl
-take_zeros (suc m) zero h = absurd (omega arith)
-take_zeros (suc m) (suc n) h = ap (λ z. 0 ∷ z) (take_zeros m n (omega arith))
+zeros_are zero = refl
+zeros_are (suc n) = ap (λ z. 0 ∷ z) (zeros_are n)
 
-drop_zeros : (m n : ℕ) → m ≤ n → drop m (zeros n) ≡ zeros (n - m)
-unfolding zeros
-drop_zeros zero n h = ap zeros (omega arith)
-drop_zeros (suc m) zero h = absurd (omega arith)
-drop_zeros (suc m) (suc n) h = drop_zeros m n (omega arith) ∙ ap zeros (omega arith)
+take_zeros : (m n : ℕ) → m ≤ n → take m (zeros n) ≡ zeros m
+take_zeros m n h = sym (ap (take m) (zeros_are n)) ∙ take-replicate m n 0 h ∙ zeros_are m
+
+drop_zeros : (m n : ℕ) → zeros (n - m) ≡ drop m (zeros n)
+drop_zeros m n = sym (zeros_are (n - m)) ∙ sym (drop-replicate m n 0) ∙ ap (drop m) (zeros_are n)
 
 over_zeros : (w n : ℕ) (bs : List ℕ) → length bs ≤ w → w ≤ n → over bs (zeros w) ≡ take w (bs ++ zeros n)
 unfolding zeros
@@ -107,11 +106,6 @@ pub pad_over : (w : ℕ) (bs : List ℕ) → length bs ≤ w → over bs (zeros 
 unfolding pad
 pad_over w bs h = over_zeros w w bs h (omega arith)
 
-zeros_are : (n : ℕ) → replicate n 0 ≡ zeros n
-unfolding zeros
-zeros_are zero = refl
-zeros_are (suc n) = ap (λ z. 0 ∷ z) (zeros_are n)
-
 -- two parts one behind the other in a row of zeros
 pub both_padded : (w : ℕ) (t u z a b : List ℕ) → z ≡ replicate w 0 → a ≡ placed 0 t z → b ≡ placed (length t) u a → length t + length u ≤ w → b ≡ pad w (t ++ u)
 both_padded w t u z a b ez ea eb h =
@@ -121,7 +115,7 @@ both_padded w t u z a b ez ea eb h =
 -- a part of bytes brought to a length
 part : (k m w n j : ℕ) (bs : List ℕ) → k + m ≤ w → w ≤ n → m ≤ j → take m (drop k (take w (bs ++ zeros n))) ≡ take m (drop k bs ++ zeros j)
 part k m w n j [] h l q =
-    let a : take m (drop k (take w (zeros n))) ≡ zeros m = rw (take_zeros w n l, drop_zeros k w (omega arith)) (take_zeros m (w - k) (omega arith)) in
+    let a : take m (drop k (take w (zeros n))) ≡ zeros m = rw (take_zeros w n l, sym (drop_zeros k w)) (take_zeros m (w - k) (omega arith)) in
     let b : take m (drop k [] ++ zeros j) ≡ zeros m = rw (drop_all {X = ℕ} k [] (omega arith)) (take_zeros m j q) in
     a ∙ sym b
 part zero zero w n j (b ∷ bs) h l q = refl
@@ -160,12 +154,6 @@ at_byte zero [] = refl
 at_byte (suc k) [] = refl
 at_byte zero (b ∷ p) = omega arith
 at_byte (suc k) (b ∷ p) = at_byte k p
-
-pub at_few : (k w : ℕ) (p : List ℕ) → w ≤ 8 → from_eight 0 (take 8 (take (k + w - k) (drop k p))) ≡ at k w p
-unfolding at number
-at_few k w p h =
-    let e : k + w - k ≡ w = omega arith in
-    rw e (ap (from_eight 0) (take_all 8 (take w (drop k p)) (simp length-take (omega arith))))
 
 -- three bytes to each number read
 pub length_read_threes : (c : ℕ) (bs : List ℕ) → length (read_threes c bs) ≡ c

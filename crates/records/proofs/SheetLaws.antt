@@ -1,7 +1,8 @@
 -- The pages of an event are those that the layout says, and what they say is what is read.
-use Rattle.std.proofs.Common.{◌≡◌, ℕ, zero, suc, ◌+◌, ◌*◌, ◌<◌, ◌≤◌, eqb, List, [], ◌∷◌, ◌++◌, length, get_or, take, drop, sym, refl, ap, ◌∙◌, arith}
+use Rattle.std.proofs.Common.{◌≡◌, ℕ, zero, suc, ◌+◌, ◌*◌, ◌<◌, ◌≤◌, Bool, true, false, eqb, List, [], ◌∷◌, ◌++◌, length, get_or, take, drop, sym, refl, ap, ◌∙◌, arith}
 use Rattle.std.proofs.lemmas.List.{append_assoc, drop-drop}
-use Rattle.pages.specs.Lists.{those}
+use Rattle.std.specs.Int.{from_bool}
+use Rattle.pages.specs.Lists.{bit, those}
 use Rattle.pages.specs.Device.{Page, page_at}
 use Rattle.pages.specs.Fields.{at, number, Field, fields, pad}
 use Rattle.pages.specs.Cells.{keys, contents}
@@ -14,7 +15,7 @@ use Rattle.recurrence.specs.declared.event.Event.{Event}
 use Rattle.recurrence.proofs.Weeks.{has_day}
 use Rattle.records.specs.Layout.{Slot, body, body_length, first_fields, first_page, fours, further, further_cells, read_fours}
 use Rattle.records.specs.Does.{days_in, event_from, more_in, read_threes, repeat_in, title_in}
-use Rattle.records.specs.Sheets.{event_value, first_values, first_widths, layout, repeat_value, threes, week_value}
+use Rattle.records.specs.Sheets.{event_value, fields_of, laid, repeat_value, threes, week_value}
 use Rattle.records.proofs.Chains.{further_keys}
 use Rattle.records.proofs.Events.{kind_back}
 use Rattle.records.proofs.SheetBytes.{fours_append, pad_part}
@@ -25,11 +26,16 @@ unfolding body
 body_is e t d = refl
 
 -- THE FIRST PAGE
-pub first_laid : (link n : ℕ) (e : Event) (t d : List ℕ) → layout first_widths (first_values link n e (length t) (length d)) ≡ first_fields link n (event_with e t d)
-unfolding layout first_values
+pub first_laid : (link n : ℕ) (e : Event) (t d : List ℕ) → laid (fields_of (record { link = link; number = n; title = length t; days = length d; event = e })) ≡ first_fields link n (event_with e t d)
+unfolding fields_of
 first_laid link n e t d =
     let w = e.repeat.weekdays in
     rw (has_day w 0, has_day w 1, has_day w 2, has_day w 3, has_day w 4, has_day w 5, has_day w 6)
+
+-- bits of the code
+pub bit_is : (b : Bool) → from_bool b ≡ bit b
+bit_is true = refl
+bit_is false = refl
 
 pub joined_parts : (fs : List Field) (as₁ r : List ℕ) → fields fs [] ++ fours 22 as₁ [] ++ r ≡ fields fs (fours 22 as₁ r)
 joined_parts fs as₁ r = append_assoc (fields fs []) (fours 22 as₁ []) r ∙ ap (λ z. fields fs [] ++ z) (fours_append 22 as₁ [] r) ∙ fields_append fs [] (fours 22 as₁ r)

@@ -1,22 +1,16 @@
 -- Lists written with their count before them.
-use Rattle.std.proofs.Common.{◌≡◌, ℕ, zero, suc, ◌+◌, ◌*◌, ◌<◌, ◌≤◌, Bool, true, false, List, [], ◌∷◌, ◌++◌, length, get_or, take, sym, refl, ap, ◌∙◌, add-one, arith}
+use Rattle.std.proofs.Common.{◌≡◌, ℕ, zero, suc, ◌+◌, ◌*◌, ◌<◌, ◌≤◌, Bool, true, false, cond, List, [], ◌∷◌, ◌++◌, length, get_or, take, sym, refl, ap, ◌∙◌, add-one, arith}
+use Rattle.std.specs.List.{filter, range_with_len}
 use Rattle.std.proofs.lemmas.List.{append_assoc, append-nil, length-append, length-take}
 use Rattle.pages.specs.Lists.{pick, flat}
 use Rattle.pages.specs.Bytes.{eight, with_length}
 use Rattle.pages.proofs.ByteLists.{length_eight}
-use Rattle.recurrence.specs.Week.{places}
+use Rattle.recurrence.specs.Week.{days_of, flags, places}
+use Rattle.recurrence.specs.declared.event.Weekdays.{Weekdays}
 use Rattle.recurrence.specs.Value.{repeat_of, event_with}
 use Rattle.recurrence.specs.declared.event.Event.{Event}
 use Rattle.records.specs.Command.{bit, numbers, repeat_spelled, event_spelled}
 use Rattle.records.specs.Written.{timing_spelled}
-
-flat_suc : (ns : List ℕ) (i : ℕ) → i < length ns → flat eight (take (suc i) ns) ≡ flat eight (take i ns) ++ eight (get_or ns i 0)
-flat_suc [] i h = absurd (omega arith)
-flat_suc (n ∷ ns) zero h = append-nil (eight n)
-flat_suc (n ∷ ns) (suc i) h = ap (λ u. eight n ++ u) (flat_suc ns i (omega arith)) ∙ sym (append_assoc (eight n) (flat eight (take i ns)) (eight (get_or ns i 0)))
-
-pub flat_more : (ns : List ℕ) (i : ℕ) → i < length ns → flat eight (take (i + 1) ns) ≡ flat eight (take i ns) ++ eight (get_or ns i 0)
-flat_more ns i h = rw (add-one i) (flat_suc ns i h)
 
 pub length_flat : (ns : List ℕ) → length (flat eight ns) ≡ 8 * length ns
 length_flat [] = refl
@@ -49,6 +43,20 @@ unfolding places
 places_few k [] = omega arith
 places_few k (true ∷ bs) = let i = places_few (suc k) bs in omega arith
 places_few k (false ∷ bs) = let i = places_few (suc k) bs in omega arith
+
+-- the numbers of weekdays, out of all seven
+day_kept : (b : Bool) (n : ℕ) (xs ys : List ℕ) → xs ≡ ys → cond b (n ∷ xs) xs ≡ pick b (n ∷ ys) ys
+day_kept true n xs ys e = ap (λ z. n ∷ z) e
+day_kept false n xs ys e = e
+
+pub days_filtered : (w : Weekdays) → filter (λ d. get_or (flags w) d false) (range_with_len 0 7) ≡ days_of w
+unfolding days_of places
+days_filtered w =
+    day_kept w.monday 0 _ _ (day_kept w.tuesday 1 _ _ (day_kept w.wednesday 2 _ _ (day_kept w.thursday 3 _ _ (day_kept w.friday 4 _ _ (day_kept w.saturday 5 _ _ (day_kept w.sunday 6 _ _ refl))))))
+
+pub days_few : (w : Weekdays) → length (days_of w) ≤ 7
+unfolding days_of
+days_few w = places_few 0 (flags w)
 
 -- one turn of a loop over the weekdays
 pub day_marked : (bs : List Bool) (i : ℕ) → i < length bs → true ≡ get_or bs i false → places 0 (take (i + 1) bs) ≡ places 0 (take i bs) ++ (i ∷ [])

@@ -2,6 +2,7 @@ pub mod Command
 pub mod House
 pub mod Promise
 pub mod Reader
+pub mod Field
 pub mod Reads
 pub mod Written
 pub mod Layout

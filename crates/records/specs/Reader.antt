@@ -3,6 +3,7 @@
 use Rattle.std.specs.Prelude.{ℕ, zero, suc, ◌+◌, ◌*◌, Bool, true, cond, ◌&&◌, List, [], ◌∷◌, length, take, drop, Some, None, Option, ◌==◌, nat_le, nat_lt, slice_index}
 use Rattle.pages.specs.Bytes.{all_bytes, from_eight}
 use Rattle.dates.specs.Zone.{Zone as MeantZone}
+use Rattle.dates.specs.declared.zone.Sunday.{Sunday}
 use Rattle.dates.specs.declared.zone.Zone.{Zone}
 use Rattle.recurrence.specs.Event.{Event as MeantEvent}
 use Rattle.recurrence.specs.Value.{kind_of, event_with}
@@ -41,6 +42,11 @@ unfoldable pub text : ℕ → ℕ → List ℕ → ℕ → Option (Part × ℕ)
 text few most t k =
     then (wide few most t k) (λ n. cond (nat_le (n.1 + n.0) (length t)) (Some (record { start = n.1; count = n.0 }, n.1 + n.0)) None)
 
+-- so many pieces of a width, with their count before them, the count within bounds
+unfoldable pub part : ℕ → ℕ → ℕ → List ℕ → ℕ → Option (Part × ℕ)
+part w few most t k =
+    then (wide few most t k) (λ n. cond (nat_le (n.1 + w * n.0) (length t)) (Some (record { start = n.1; count = n.0 }, n.1 + w * n.0)) None)
+
 -- so many numbers from a place on, rising, within bounds
 unfoldable pub climbs : ℕ → ℕ → ℕ → List ℕ → ℕ → Bool
 climbs zero lo hi t k = true
@@ -67,12 +73,16 @@ stretch t k =
     (λ f. then (wide 15840 105119999 t f.1)
     (λ u. cond (nat_lt f.0 u.0 && nat_le u.0 (f.0 + 576000)) (Some (record { from = f.0; to = u.0 }, u.1)) None))
 
+-- a month and a week of it
+unfoldable pub sunday : List ℕ → ℕ → Option (Sunday × ℕ)
+sunday t k = then (narrow 1 12 t k) (λ m. then (narrow 1 5 t m.1) (λ w. Some (record { month = m.0; week = w.0 }, w.1)))
+
 abbrev pub a_place : List ℕ → ℕ → Option (Zone × ℕ)
 a_place t k =
-    then (wide 0 1560 t k) (λ east. then (wide 0 120 t east.1) (λ extra. then (narrow 1 12 t extra.1) (λ m. then (narrow 1 5 t m.1)
-    (λ w. then (narrow 1 12 t w.1) (λ n. then (narrow 1 5 t n.1) (λ v. then (wide 0 1439 t v.1)
-    (λ at. cond (m.0 == n.0 && nat_lt 0 extra.0) None
-    (Some (record { east = east.0; extra = extra.0; begins = record { month = m.0; week = w.0 }; ends = record { month = n.0; week = v.0 }; minute = at.0 }, at.1)))))))))
+    then (wide 0 1560 t k) (λ east. then (wide 0 120 t east.1) (λ extra. then (sunday t extra.1) (λ begins. then (sunday t begins.1)
+    (λ ends. then (wide 0 1439 t ends.1)
+    (λ at. cond (begins.0.month == ends.0.month && nat_lt 0 extra.0) None
+    (Some (record { east = east.0; extra = extra.0; begins = begins.0; ends = ends.0; minute = at.0 }, at.1)))))))
 
 abbrev pub repeating : List ℕ → ℕ → Option (Repeat × ℕ)
 repeating t k =

@@ -1,6 +1,6 @@
 -- What an event's pages hold, by value. Assumes nothing: these are definitions.
 use Rattle.std.specs.Prelude.{ℕ, Bool, List, [], ◌∷◌, ◌==◌}
-use Rattle.pages.specs.Lists.{bit, flat}
+use Rattle.pages.specs.Lists.{bit, each, flat}
 use Rattle.pages.specs.Bytes.{in_bytes}
 use Rattle.pages.specs.Device.{Page}
 use Rattle.pages.specs.Fields.{at, fd, Field}
@@ -12,26 +12,25 @@ use Rattle.recurrence.specs.declared.event.Event.{Event}
 use Rattle.records.specs.Does.{link_in, title_in, days_in}
 use Rattle.records.specs.declared.sheets.First.{First}
 
--- fields by their widths and their values
-unfoldable pub layout : List ℕ → List ℕ → List Field
-layout [] vs = []
-layout (w ∷ ws) [] = []
-layout (w ∷ ws) (v ∷ vs) = fd w v ∷ layout ws vs
+-- fields by width and value
+abbrev pub laid : List (ℕ × ℕ) → List Field
+laid fs = each (λ f. fd f.0 f.1) fs
 
 -- three bytes for each day
 abbrev pub threes : List ℕ → List ℕ
 threes ds = flat (λ d. in_bytes 3 d []) ds
 
--- the fields of a first page
-abbrev pub first_widths : List ℕ
-first_widths = 1 ∷ 4 ∷ 8 ∷ 1 ∷ 2 ∷ 1 ∷ 3 ∷ 2 ∷ 2 ∷ 1 ∷ 1 ∷ 2 ∷ 2 ∷ 3 ∷ 1 ∷ 1 ∷ 1 ∷ 1 ∷ 1 ∷ 1 ∷ 1 ∷ []
-
-unfoldable pub first_values : ℕ → ℕ → Event → ℕ → ℕ → List ℕ
-first_values link n e title days =
-    1 ∷ link ∷ n ∷ title ∷ days ∷ e.zone ∷ e.first ∷ e.minute ∷ e.long ∷ bit e.busy
-    ∷ kind_number e.repeat.kind ∷ e.repeat.step ∷ e.repeat.times ∷ e.repeat.last
-    ∷ bit e.repeat.weekdays.monday ∷ bit e.repeat.weekdays.tuesday ∷ bit e.repeat.weekdays.wednesday ∷ bit e.repeat.weekdays.thursday
-    ∷ bit e.repeat.weekdays.friday ∷ bit e.repeat.weekdays.saturday ∷ bit e.repeat.weekdays.sunday ∷ []
+-- the fields of a first page, from what it says
+unfoldable pub fields_of : First → List (ℕ × ℕ)
+fields_of f =
+    let e : Event = f.event in
+    let r : Repeat = e.repeat in
+    let w : Weekdays = r.weekdays in
+    (1, 1) ∷ (4, f.link) ∷ (8, f.number) ∷ (1, f.title) ∷ (2, f.days)
+    ∷ (1, e.zone) ∷ (3, e.first) ∷ (2, e.minute) ∷ (2, e.long) ∷ (1, bit e.busy)
+    ∷ (1, kind_number r.kind) ∷ (2, r.step) ∷ (2, r.times) ∷ (3, r.last)
+    ∷ (1, bit w.monday) ∷ (1, bit w.tuesday) ∷ (1, bit w.wednesday) ∷ (1, bit w.thursday)
+    ∷ (1, bit w.friday) ∷ (1, bit w.saturday) ∷ (1, bit w.sunday) ∷ []
 
 -- what a first page says
 abbrev pub marked : ℕ → Page → Bool

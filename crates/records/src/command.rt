@@ -6,7 +6,8 @@ use dates::zone::Zone;
 use recurrence::event::Event;
 
 // So many bytes, or numbers of eight bytes, of a text from a place on.
-#[derive(Clone, Copy)]
+// A slice of the text would be no plainer: that a command equals the one that its text spells is then no single equation.
+#[derive(Clone, Copy, Debug, PartialEq, Eq)]
 pub struct Part {
     pub start: usize,
     pub count: usize,
@@ -24,21 +25,22 @@ impl Part {
 }
 
 // From one time to a later one, which is not in it.
-#[derive(Clone, Copy)]
+#[derive(Clone, Copy, Debug, PartialEq, Eq)]
 pub struct Stretch {
     pub from: u64,
     pub to: u64,
 }
 
 // An event as a command has it: its title is bytes and the days left out are numbers of the text.
-#[derive(Clone, Copy)]
+#[derive(Clone, Copy, Debug, PartialEq, Eq)]
 pub struct Draft {
     pub title: Part,
     pub event: Event,
     pub left_out: Part,
 }
 
-#[derive(Clone, Copy)]
+// Plain numbers: a command is what its text spells, in that order, and a struct for a person and an event would stand between.
+#[derive(Clone, Copy, Debug, PartialEq, Eq)]
 pub enum Command {
     // A new person, by name.
     Join(Part),

@@ -4,6 +4,7 @@
 pub mod command;
 mod field;
 pub mod people;
+pub mod place;
 pub mod read;
 pub mod sheets;
 pub mod stands;

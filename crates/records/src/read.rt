@@ -1,59 +1,41 @@
 // Commands read from bytes.
 ghost use Rattle.std.specs.Prelude.{◌≡◌};
-ghost use Rattle.records.specs.Reader.{stretch, a_place, repeating, timing, draft, ended, find_join, find_zone, find_put, find_change, find_drop, find_skip, find_list, find_busy, find_free, find_next, find_shown, found_as, found};
+ghost use Rattle.records.specs.Reader.{stretch, sunday, a_place, repeating, timing, draft, ended, find_join, find_zone, find_put, find_change, find_drop, find_skip, find_list, find_busy, find_free, find_next, find_shown, found_as, found};
 ghost use Rattle.records.specs.Reads.{Reads};
 ghost use Rattle.records.specs.Promise.{SpelledOnce};
-ghost use Rattle.recurrence.specs.Value.{kind_of};
 
 use crate::command::{Command, Draft, Stretch};
-use crate::field::{narrow_at, row_at, text_at, weekdays_at, wide_at};
+use crate::field::{field_at, kind_of, row_at, text_at, weekdays_at};
 use dates::zone::{Sunday, Zone};
-use recurrence::event::{Event, Kind, Repeat};
-
-// The largest number of eight bytes.
-const ANY: u64 = 18446744073709551615;
+use recurrence::event::{Event, Repeat};
 
 fn stretch_at(bytes: &[u8], at: usize) -> Option<(Stretch, usize)>
     ensures { result ≡ stretch bytes.now at }
 {
-    let Some((from, at)) = wide_at(bytes, at, 15840, 105119999) else {
-        return None;
-    };
-    let Some((to, at)) = wide_at(bytes, at, 15840, 105119999) else {
-        return None;
-    };
+    let (from, at) = field_at(bytes, at, 15840, 105119999)?;
+    let (to, at) = field_at(bytes, at, 15840, 105119999)?;
     if from >= to || to - from > 576000 {
         return None;
     }
     Some((Stretch { from, to }, at))
 }
 
+fn sunday_at(bytes: &[u8], at: usize) -> Option<(Sunday, usize)>
+    ensures { result ≡ sunday bytes.now at }
+{
+    let (month, at) = field_at(bytes, at, 1, 12)?;
+    let (week, at) = field_at(bytes, at, 1, 5)?;
+    Some((Sunday { month, week }, at))
+}
+
 fn zone_at(bytes: &[u8], at: usize) -> Option<(Zone, usize)>
     ensures { result ≡ a_place bytes.now at }
 {
-    let Some((east, at)) = wide_at(bytes, at, 0, 1560) else {
-        return None;
-    };
-    let Some((extra, at)) = wide_at(bytes, at, 0, 120) else {
-        return None;
-    };
-    let Some((month, at)) = narrow_at(bytes, at, 1, 12) else {
-        return None;
-    };
-    let Some((week, at)) = narrow_at(bytes, at, 1, 5) else {
-        return None;
-    };
-    let begins = Sunday { month, week };
-    let Some((month, at)) = narrow_at(bytes, at, 1, 12) else {
-        return None;
-    };
-    let Some((week, at)) = narrow_at(bytes, at, 1, 5) else {
-        return None;
-    };
-    let ends = Sunday { month, week };
-    let Some((minute, at)) = wide_at(bytes, at, 0, 1439) else {
-        return None;
-    };
+    let (east, at) = field_at(bytes, at, 0, 1560)?;
+    let (extra, at) = field_at(bytes, at, 0, 120)?;
+    let (begins, at) = sunday_at(bytes, at)?;
+    let (ends, at) = sunday_at(bytes, at)?;
+    let (minute, at) = field_at(bytes, at, 0, 1439)?;
     // Clocks that are put on are put back in another month.
     if begins.month == ends.month && extra > 0 {
         return None;
@@ -70,43 +52,17 @@ fn zone_at(bytes: &[u8], at: usize) -> Option<(Zone, usize)>
     ))
 }
 
-// The kind of a number below 7.
-pub(crate) fn kind_from(number: u8) -> Kind
-    ensures { result ≡ kind_of number }
-{
-    match number {
-        0 => Kind::Once,
-        1 => Kind::Daily,
-        2 => Kind::Weekly,
-        3 => Kind::Monthly,
-        4 => Kind::MonthlyByWeekday,
-        5 => Kind::MonthlyByLastWeekday,
-        _ => Kind::Yearly,
-    }
-}
-
 fn repeat_at(bytes: &[u8], at: usize) -> Option<(Repeat, usize)>
     ensures { result ≡ repeating bytes.now at }
 {
-    let Some((kind, at)) = narrow_at(bytes, at, 0, 6) else {
-        return None;
-    };
-    let Some((step, at)) = wide_at(bytes, at, 1, 1000) else {
-        return None;
-    };
-    let Some((weekdays, at)) = weekdays_at(bytes, at) else {
-        return None;
-    };
-    let Some((times, at)) = wide_at(bytes, at, 0, 10000) else {
-        return None;
-    };
-    let Some((last, at)) = wide_at(bytes, at, 11, 72999) else {
-        return None;
-    };
-    let kind = kind_from(kind);
+    let (kind, at) = field_at(bytes, at, 0, 6)?;
+    let (step, at) = field_at(bytes, at, 1, 1000)?;
+    let (weekdays, at) = weekdays_at(bytes, at)?;
+    let (times, at) = field_at(bytes, at, 0, 10000)?;
+    let (last, at) = field_at(bytes, at, 11, 72999)?;
     Some((
         Repeat {
-            kind,
+            kind: kind_of(kind),
             step,
             weekdays,
             times,
@@ -120,32 +76,19 @@ fn repeat_at(bytes: &[u8], at: usize) -> Option<(Repeat, usize)>
 fn event_at(bytes: &[u8], at: usize) -> Option<(Event, usize)>
     ensures { result ≡ timing bytes.now at }
 {
-    let Some((zone, at)) = narrow_at(bytes, at, 0, 15) else {
-        return None;
-    };
-    let Some((first, at)) = wide_at(bytes, at, 11, 72999) else {
-        return None;
-    };
-    let Some((minute, at)) = wide_at(bytes, at, 0, 1439) else {
-        return None;
-    };
-    let Some((long, at)) = wide_at(bytes, at, 1, 10080) else {
-        return None;
-    };
-    let Some((busy, at)) = narrow_at(bytes, at, 0, 1) else {
-        return None;
-    };
-    let Some((repeat, at)) = repeat_at(bytes, at) else {
-        return None;
-    };
-    let busy = busy == 1;
+    let (zone, at) = field_at(bytes, at, 0, 15)?;
+    let (first, at) = field_at(bytes, at, 11, 72999)?;
+    let (minute, at) = field_at(bytes, at, 0, 1439)?;
+    let (long, at) = field_at(bytes, at, 1, 10080)?;
+    let (busy, at) = field_at(bytes, at, 0u8, 1)?;
+    let (repeat, at) = repeat_at(bytes, at)?;
     Some((
         Event {
             zone,
             first,
             minute,
             long,
-            busy,
+            busy: busy == 1,
             repeat,
         },
         at,
@@ -155,15 +98,9 @@ fn event_at(bytes: &[u8], at: usize) -> Option<(Event, usize)>
 fn draft_at(bytes: &[u8], at: usize) -> Option<(Draft, usize)>
     ensures { result ≡ draft bytes.now at }
 {
-    let Some((title, at)) = text_at(bytes, at, 0, 255) else {
-        return None;
-    };
-    let Some((event, at)) = event_at(bytes, at) else {
-        return None;
-    };
-    let Some((left_out, at)) = row_at(bytes, at, 0, 1000, 11, 72999) else {
-        return None;
-    };
+    let (title, at) = text_at(bytes, at, 0, 255)?;
+    let (event, at) = event_at(bytes, at)?;
+    let (left_out, at) = row_at(bytes, at, 0, 1000, 11, 72999)?;
     Some((
         Draft {
             title,
@@ -178,150 +115,100 @@ fn draft_at(bytes: &[u8], at: usize) -> Option<(Draft, usize)>
 fn end_at(bytes: &[u8], at: usize, command: Command) -> Option<Command>
     ensures { result ≡ ended bytes.now at command }
 {
-    if at != bytes.len() {
-        return None;
-    }
-    Some(command)
+    (at == bytes.len()).then_some(command)
 }
 
 fn join(bytes: &[u8]) -> Option<Command>
     ensures { result ≡ find_join bytes.now }
 {
-    let Some((name, at)) = text_at(bytes, 1, 1, 64) else {
-        return None;
-    };
+    let (name, at) = text_at(bytes, 1, 1, 64)?;
     end_at(bytes, at, Command::Join(name))
 }
 
 fn set_zone(bytes: &[u8]) -> Option<Command>
     ensures { result ≡ find_zone bytes.now }
 {
-    let Some((number, at)) = narrow_at(bytes, 1, 0, 15) else {
-        return None;
-    };
-    let Some((zone, at)) = zone_at(bytes, at) else {
-        return None;
-    };
+    let (number, at) = field_at(bytes, 1, 0, 15)?;
+    let (zone, at) = zone_at(bytes, at)?;
     end_at(bytes, at, Command::SetZone(number, zone))
 }
 
 fn put(bytes: &[u8]) -> Option<Command>
     ensures { result ≡ find_put bytes.now }
 {
-    let Some((person, at)) = wide_at(bytes, 1, 0, 255) else {
-        return None;
-    };
-    let Some((draft, at)) = draft_at(bytes, at) else {
-        return None;
-    };
+    let (person, at) = field_at(bytes, 1, 0, 255)?;
+    let (draft, at) = draft_at(bytes, at)?;
     end_at(bytes, at, Command::Put(person, draft))
 }
 
 fn change(bytes: &[u8]) -> Option<Command>
     ensures { result ≡ find_change bytes.now }
 {
-    let Some((person, at)) = wide_at(bytes, 1, 0, 255) else {
-        return None;
-    };
-    let Some((number, at)) = wide_at(bytes, at, 0, ANY) else {
-        return None;
-    };
-    let Some((draft, at)) = draft_at(bytes, at) else {
-        return None;
-    };
+    let (person, at) = field_at(bytes, 1, 0, 255)?;
+    let (number, at) = field_at(bytes, at, 0, u64::MAX)?;
+    let (draft, at) = draft_at(bytes, at)?;
     end_at(bytes, at, Command::Change(person, number, draft))
 }
 
 fn drop_event(bytes: &[u8]) -> Option<Command>
     ensures { result ≡ find_drop bytes.now }
 {
-    let Some((person, at)) = wide_at(bytes, 1, 0, 255) else {
-        return None;
-    };
-    let Some((number, at)) = wide_at(bytes, at, 0, ANY) else {
-        return None;
-    };
+    let (person, at) = field_at(bytes, 1, 0, 255)?;
+    let (number, at) = field_at(bytes, at, 0, u64::MAX)?;
     end_at(bytes, at, Command::DropEvent(person, number))
 }
 
 fn skip(bytes: &[u8]) -> Option<Command>
     ensures { result ≡ find_skip bytes.now }
 {
-    let Some((person, at)) = wide_at(bytes, 1, 0, 255) else {
-        return None;
-    };
-    let Some((number, at)) = wide_at(bytes, at, 0, ANY) else {
-        return None;
-    };
-    let Some((day, at)) = wide_at(bytes, at, 11, 72999) else {
-        return None;
-    };
+    let (person, at) = field_at(bytes, 1, 0, 255)?;
+    let (number, at) = field_at(bytes, at, 0, u64::MAX)?;
+    let (day, at) = field_at(bytes, at, 11, 72999)?;
     end_at(bytes, at, Command::Skip(person, number, day))
 }
 
 fn listing(bytes: &[u8]) -> Option<Command>
     ensures { result ≡ find_list bytes.now }
 {
-    let Some((person, at)) = wide_at(bytes, 1, 0, 255) else {
-        return None;
-    };
-    let Some((stretch, at)) = stretch_at(bytes, at) else {
-        return None;
-    };
+    let (person, at) = field_at(bytes, 1, 0, 255)?;
+    let (stretch, at) = stretch_at(bytes, at)?;
     end_at(bytes, at, Command::Listing(person, stretch))
 }
 
 fn busy_times(bytes: &[u8]) -> Option<Command>
     ensures { result ≡ find_busy bytes.now }
 {
-    let Some((people, at)) = row_at(bytes, 1, 1, 16, 0, 255) else {
-        return None;
-    };
-    let Some((stretch, at)) = stretch_at(bytes, at) else {
-        return None;
-    };
+    let (people, at) = row_at(bytes, 1, 1, 16, 0, 255)?;
+    let (stretch, at) = stretch_at(bytes, at)?;
     end_at(bytes, at, Command::Busy(people, stretch))
 }
 
 fn free_time(bytes: &[u8]) -> Option<Command>
     ensures { result ≡ find_free bytes.now }
 {
-    let Some((people, at)) = row_at(bytes, 1, 1, 16, 0, 255) else {
-        return None;
-    };
-    let Some((minutes, at)) = wide_at(bytes, at, 1, 10080) else {
-        return None;
-    };
-    let Some((stretch, at)) = stretch_at(bytes, at) else {
-        return None;
-    };
+    let (people, at) = row_at(bytes, 1, 1, 16, 0, 255)?;
+    let (minutes, at) = field_at(bytes, at, 1, 10080)?;
+    let (stretch, at) = stretch_at(bytes, at)?;
     end_at(bytes, at, Command::Free(people, minutes, stretch))
 }
 
 fn next_one(bytes: &[u8]) -> Option<Command>
     ensures { result ≡ find_next bytes.now }
 {
-    let Some((person, at)) = wide_at(bytes, 1, 0, 255) else {
-        return None;
-    };
-    let Some((time, at)) = wide_at(bytes, at, 15840, 105119999) else {
-        return None;
-    };
+    let (person, at) = field_at(bytes, 1, 0, 255)?;
+    let (time, at) = field_at(bytes, at, 15840, 105119999)?;
     end_at(bytes, at, Command::Next(person, time))
 }
 
 fn shown(bytes: &[u8]) -> Option<Command>
     ensures { result ≡ find_shown bytes.now }
 {
-    let Some((person, at)) = wide_at(bytes, 1, 0, 255) else {
-        return None;
-    };
-    let Some((number, at)) = wide_at(bytes, at, 0, ANY) else {
-        return None;
-    };
+    let (person, at) = field_at(bytes, 1, 0, 255)?;
+    let (number, at) = field_at(bytes, at, 0, u64::MAX)?;
     end_at(bytes, at, Command::Shown(person, number))
 }
 
+// The commands' numbers are those that their texts are given.
 fn by_kind(kind: u8, bytes: &[u8]) -> Option<Command>
     ensures { result ≡ found_as kind bytes.now }
 {
@@ -347,8 +234,5 @@ pub fn read(bytes: &[u8]) -> Option<Command>
     ensures meaning { Reads bytes.now result }
     ensures once { SpelledOnce }
 {
-    if bytes.len() == 0 {
-        return None;
-    }
-    by_kind(bytes[0], bytes)
+    by_kind(*bytes.first()?, bytes)
 }

@@ -2,8 +2,6 @@
 ghost use Rattle.records.specs.Does.{PagesRight};
 
 // Any commands one after another, from blank pages on.
-pub fn pages_stand() -> u8
+pub fn pages_stand()
     ensures { PagesRight }
-{
-    0
-}
+{}

@@ -1,12 +1,15 @@
 -- The closed forms count what the definition counts by looking at every day.
-use Rattle.std.proofs.Common.{◌≡◌, ℕ, zero, suc, ◌+◌, ◌-◌, ◌/◌, ◌%◌, ◌<◌, ◌≤◌, min, Bool, ◌&&◌, eqb, leb, ◌⊎◌, sym, refl, ap, ◌∙◌, inl, inr, mul-add, add-one, arith}
+use Rattle.std.proofs.Common.{◌≡◌, ℕ, zero, suc, ◌+◌, ◌-◌, ◌/◌, ◌%◌, ◌<◌, ◌≤◌, min, cond, Bool, ◌&&◌, eqb, leb, ◌⊎◌, sym, refl, ap, ◌∙◌, inl, inr, mul-add, add-one, arith}
 use native.Mathlib.Nat.{div-eq_of_lt, zero-mod, zero-div, sub_self, add-mod_right}
+use Rattle.std.specs.List.{count_by, range_with_len}
+use Rattle.std.proofs.lemmas.List.Sums.{sum_by-cons}
 use Rattle.std.proofs.lemmas.Bool.Decides.{nat_tests}
-use Rattle.std.proofs.lemmas.Bool.{cases_lt, le-leb, lt-leb}
-use Rattle.pages.specs.Lists.{pick}
+use Rattle.std.proofs.lemmas.Bool.{cases_lt, le-leb, lt-leb, lt-ltb, le-ltb}
+use Rattle.pages.specs.Lists.{or, pick}
 use Rattle.dates.specs.Date.{weekday, week}
 use Rattle.recurrence.specs.Event.{Repeat, has, so_often}
 use Rattle.recurrence.specs.ByRule.{on_before, weeks_often, often_weekly, often_due, often}
+use Rattle.recurrence.specs.First.{fallen, in_times}
 use Rattle.recurrence.proofs.Steps.{div_suc, due, falls_past, falls_due}
 
 pub on_before_suc : (on : ℕ → Bool) (k : ℕ) → on_before on (k + 1) ≡ on_before on k + pick (on k) 1 0
@@ -16,6 +19,16 @@ on_before_suc on k = rw add-one
 pub on_before_none : (on : ℕ → Bool) → on_before on 0 ≡ 0
 unfolding on_before
 on_before_none on = refl
+
+-- as `filter` and `count` give it, by a test of the same days
+pub counted_from : (on test : ℕ → Bool) → ((k : ℕ) → on k ≡ test k) → (w n : ℕ) → on_before on (w + n) ≡ on_before on w + count_by test (range_with_len w n)
+counted_from on test h w zero = let e : w + 0 ≡ w = omega arith in rw e (omega arith)
+counted_from on test h w (suc n) =
+    let e : w + suc n ≡ w + 1 + n = omega arith in
+    let i = counted_from on test h (w + 1) n in
+    let o = rw (h w) at (on_before_suc on w) in
+    let s = sum_by-cons (λ x. cond (test x) 1 0) w (range_with_len (w + 1) n) in
+    rw e (grind (arith, nat_tests))
 
 ceil_suc : (j s : ℕ) → 0 < s →
     ((j % s ≡ 0) × ((suc j + s - 1) / s ≡ (j + s - 1) / s + 1)) ⊎ ((0 < j % s) × ((suc j + s - 1) / s ≡ (j + s - 1) / s))
@@ -139,3 +152,27 @@ module _ (r : Repeat) (f : ℕ) (kind : r.kind ≤ 2) (pos : 0 < r.step) where
         | inl l ↦ rw (capped r f n, lt-leb f r.last l)
         | inr l ↦ rw (capped r f n, le-leb f r.last l) (sym (due_often (min n (r.last - f)) (omega arith)))
       ]
+
+-- up to a day: it falls on none past its last day
+pub fallen_is : (r : Repeat) (f d : ℕ) → r.kind ≤ 2 → 0 < r.step → fallen r f d ≡ pick (leb f (min d r.last)) (often_due r f (min d r.last - f)) 0
+unfolding often
+fallen_is r f d kind pos =
+    elim (cases_lt d f) [
+      | inl l ↦ (let m : min d r.last < f = omega arith in rw (lt-ltb d f l, lt-leb f (min d r.last) m))
+      | inr l ↦ rw (le-ltb d f l, ← (often_is r f kind pos (d - f))) (elim (cases_lt r.last f) [
+        | inl n ↦ (let m : min d r.last < f = omega arith in rw (lt-leb f r.last n, lt-leb f (min d r.last) m))
+        | inr n ↦ (
+            let m : f ≤ min d r.last = omega arith in
+            let e : min (d - f) (r.last - f) ≡ min d r.last - f = omega arith in
+            rw (le-leb f r.last n, le-leb f (min d r.last) m, e))
+      ])
+    ]
+
+-- before its first day none of its times has come
+pub in_times_is : (r : Repeat) (f d : ℕ) → in_times r f d ≡ or (eqb r.times 0) (leb (fallen r f d) r.times)
+unfolding so_often
+in_times_is r f d =
+    elim (cases_lt d f) [
+      | inl l ↦ (let e : d - f ≡ 0 = omega arith in rw (lt-ltb d f l, e) (grind (arith, nat_tests)))
+      | inr l ↦ rw (le-ltb d f l) (grind (arith, nat_tests))
+    ]

@@ -1,13 +1,15 @@
 -- The first day from one on, by each kind.
-use Rattle.std.proofs.Common.{◌≡◌, ℕ, zero, suc, ◌+◌, ◌-◌, ◌*◌, ◌%◌, ◌<◌, ◌≤◌, max, Bool, true, false, ◌&&◌, eqb, ◌⊎◌, Some, None, Option, sym, refl, ap, ◌∙◌, inl, inr, mod-lt, add-one, arith, MatchOption}
+use Rattle.std.proofs.Common.{◌≡◌, ℕ, zero, suc, ◌+◌, ◌-◌, ◌*◌, ◌%◌, ◌<◌, ◌≤◌, max, Bool, true, false, ◌&&◌, eqb, ◌⊎◌, Some, None, Option, sym, refl, ap, ◌∙◌, inl, inr, mod-lt, arith, MatchOption, nat_eq}
+use Rattle.std.specs.List.{find, range_with_len}
+use Rattle.std.specs.Option.{option_eq}
 use Rattle.std.proofs.lemmas.Bool.Decides.{nat_tests}
 use Rattle.std.proofs.lemmas.Bool.{cases_Bool, cases_lt, cases_eq, le-leb, lt-leb, eq-eqb, ne_eqb, and_right, and_left}
-use Rattle.pages.specs.Lists.{pick}
 use Rattle.dates.specs.Date.{weekday, week}
-use Rattle.recurrence.specs.Event.{Repeat, has, falls, so_often}
-use Rattle.recurrence.specs.ByRule.{fits, known, next_daily, on_from, in_week, or_else, weeks_past, next_weekly, up_to, next_due, next_day, often}
-use Rattle.recurrence.specs.First.{First, NoneFrom, Next, RulesRight, answer, Tells}
-use Rattle.recurrence.specs.declared.rule.Answer.{Answer}
+use Rattle.recurrence.specs.Event.{Repeat, has, falls}
+use Rattle.recurrence.specs.ByRule.{fits, known, next_daily, on_from, in_week, or_else, weeks_past, next_weekly, up_to, next_due, next_day}
+use Rattle.recurrence.specs.Value.{repeat_of}
+use Rattle.recurrence.specs.declared.rule.Rule.{Rule}
+use Rattle.recurrence.specs.First.{First, NoneFrom, Next, RulesRight}
 use Rattle.recurrence.proofs.Steps.{sum_past, sum_whole, due, falls_past, falls_due, fits_parts}
 use Rattle.recurrence.proofs.Counting.{often_is}
 
@@ -50,14 +52,14 @@ on_from_is on w (suc n) =
     more None a h = λ t l m. here t l h (λ k. a t k (omega arith))
     more (Some x) a h = (omega (arith, a.0), record { comes = a.1.comes; from = omega (arith, a.1.from); first = λ t p q. here t p h (λ k. a.1.first t k q) })
 
--- one turn of a loop over the week
-pub on_from_turn : (on : ℕ → Bool) (w : ℕ) → w < 7 → on_from on w (7 - w) ≡ pick (on w) (Some w) (on_from on (w + 1) (7 - (w + 1)))
+-- as `find` gives it, by a test of the same days
+pub found_from : (on test : ℕ → Bool) → ((k : ℕ) → on k ≡ test k) → (w n : ℕ) → find test (range_with_len w n) ≡ on_from on w n
 unfolding on_from
-on_from_turn on w l = let e : 7 - w ≡ suc (7 - suc w) = omega arith in rw (e, add-one)
-
-pub on_from_end : (on : ℕ → Bool) (w : ℕ) → 7 ≤ w → on_from on w (7 - w) ≡ None
-unfolding on_from
-on_from_end on w l = let e : 7 - w ≡ 0 = omega arith in rw e
+found_from on test h w zero = refl
+found_from on test h w (suc n) =
+    let e : w + 1 ≡ suc w = omega arith in
+    let i = rw e at (found_from on test h (w + 1) n) in
+    elim (cases_Bool (test w)) [ inl t ↦ rw (h w, t) | inr t ↦ rw (h w, t, e, i) ]
 
 module _ (on : ℕ → Bool) (s f a : ℕ) (pos : 0 < s) (begun : f ≤ a) where
   abbrev due_on : ℕ → Bool
@@ -196,21 +198,31 @@ rules_right r f h = let p = fits_parts r f h in ((λ d. next_is r f d h), λ n. 
 pub known_fits : (r : Repeat) (f d : ℕ) → known r f d ≡ true → fits r f ≡ true
 known_fits r f d h = grind (arith, nat_tests)
 
--- the answer of the code
-told : (k : Bool) (p : ℕ → Bool) (a : ℕ) (o : Option ℕ) → (k ≡ true → Next p a o) → Tells k p a (answer k o)
-told false p a o h = refl
-told true p a None h = (refl, h refl)
-told true p a (Some x) h = (refl, h refl)
+pub next_some : (r : Repeat) (f d x : ℕ) → fits r f ≡ true → Some x ≡ next_day r f d → First (falls r f) d x
+next_some r f d x h e = rw (sym e) at (next_is r f d h)
 
-pub next_told : (r : Repeat) (f d : ℕ) (a : Answer) → a ≡ answer (known r f d) (next_day r f d) → Tells (known r f d) (falls r f) d a
-next_told r f d a e =
-    rw e (told (known r f d) (falls r f) d (next_day r f d) (λ h. next_is r f d (known_fits r f d h)))
+pub next_none : (r : Repeat) (f d : ℕ) → fits r f ≡ true → None ≡ next_day r f d → NoneFrom (falls r f) d
+next_none r f d h e = rw (sym e) at (next_is r f d h)
 
-pub count_told : (r : Repeat) (f d n : ℕ) → known r f d ≡ true → often r f n ≡ so_often r f n
-count_told r f d n h = let p = fits_parts r f (known_fits r f d h) in often_is r f p.0 p.1 n
+-- past its last day there is none
+past : (p : ℕ → Bool) (a l : ℕ) (o : Option ℕ) → Next p a o → l < a → None ≡ up_to l o
+past p a l None h m = refl
+past p a l (Some x) h m = let b : a ≤ x = h.from in rw (lt-leb x l (omega arith))
 
-pub next_some : (r : Repeat) (f d x : ℕ) → known r f d ≡ true → Some x ≡ next_day r f d → First (falls r f) d x
-next_some r f d x h e = rw (sym e) at (next_is r f d (known_fits r f d h))
+pub next_past : (rule : Rule) (d : ℕ) → rule.repeat.last < max d rule.first → None ≡ next_day (repeat_of rule.repeat) rule.first d
+unfolding next_day
+next_past rule d m =
+    let r = repeat_of rule.repeat in
+    let f : ℕ = rule.first in
+    past (due r f) (max d f) r.last (next_due r f (max d f)) (due_is r f (max d f) rule.kind rule.low (omega arith)) m
 
-pub next_none : (r : Repeat) (f d : ℕ) → known r f d ≡ true → None ≡ next_day r f d → NoneFrom (falls r f) d
-next_none r f d h e = rw (sym e) at (next_is r f d (known_fits r f d h))
+-- whether it falls on a day, by the first one from it on
+pub falls_now : (r : Repeat) (f d : ℕ) → fits r f ≡ true → (o : Option ℕ) → o ≡ next_day r f d → option_eq nat_eq o (Some d) ≡ falls r f d
+falls_now r f d h None e = sym (next_none r f d h e d (omega arith))
+falls_now r f d h (Some x) e =
+    let n = next_some r f d x h e in
+    let l : d ≤ x = n.from in
+    elim (cases_eq x d) [
+      | inl q ↦ rw (eq-eqb x d q) (sym (rw q at n.comes))
+      | inr q ↦ rw (ne_eqb x d q) (sym (n.first d (omega arith) (omega arith)))
+    ]

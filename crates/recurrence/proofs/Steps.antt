@@ -1,5 +1,5 @@
 -- Division by a step that is not known, and what falls by each kind.
-use Rattle.std.proofs.Common.{◌≡◌, ℕ, suc, ◌+◌, ◌-◌, ◌*◌, ◌/◌, ◌%◌, ◌<◌, ◌≤◌, Bool, true, false, ◌&&◌, eqb, ◌⊎◌, ap, ◌∙◌, inl, inr, mod-lt, mod-eq_of_lt, arith}
+use Rattle.std.proofs.Common.{◌≡◌, ℕ, suc, ◌+◌, ◌-◌, ◌*◌, ◌/◌, ◌%◌, ◌<◌, ◌≤◌, min, Bool, true, false, ◌&&◌, eqb, ◌⊎◌, ap, ◌∙◌, inl, inr, mod-lt, mod-eq_of_lt, arith}
 use native.Mathlib.Nat.{div-add-mod, mul-add-div, mul-add-mod_self_left, div-eq_of_lt}
 use Rattle.std.proofs.lemmas.Bool.Decides.{nat_tests}
 use Rattle.std.proofs.lemmas.Bool.{cases_lt}
@@ -21,6 +21,16 @@ div_suc n s h =
     elim (cases_lt (suc (n % s)) s) [
       | inl k ↦ (let p = parted (suc n) s (n / s) (suc (n % s)) h k (omega arith) in inr (omega arith, p.0))
       | inr k ↦ (let p = parted (suc n) s (n / s + 1) 0 h h (omega arith) in inl (p.1, p.0))
+    ]
+
+-- a quotient that is rounded up
+pub ceil_is : (n s : ℕ) → 0 < s → (n + s - 1) / s ≡ n / s + min 1 (n % s)
+ceil_is n s h =
+    let e : s * (n / s) + n % s ≡ n = div-add-mod n s in
+    let l : n % s < s = mod-lt n h in
+    elim (cases_lt 0 (n % s)) [
+      | inl k ↦ (let p = parted (n + s - 1) s (n / s + 1) (n % s - 1) h (omega arith) (omega arith) in omega (arith, p.0))
+      | inr k ↦ (let p = parted (n + s - 1) s (n / s) (s - 1) h (omega arith) (omega arith) in omega (arith, p.0))
     ]
 
 -- how far past a multiple of the step a sum is

@@ -1,15 +1,15 @@
 -- The occurrences of an event, one after the other. Assumes nothing: these are definitions.
-use Rattle.std.specs.Prelude.{◌≡◌, ℕ, zero, suc, ◌+◌, ◌-◌, ◌≤◌, Bool, true, false, List, [], ◌∷◌, length, Some, None, Option, ◌==◌, nat_le, nat_lt}
-use Rattle.pages.specs.Lists.{or, pick, those}
-use Rattle.recurrence.specs.Event.{Event, an_event, has, occurs, so_often}
+use Rattle.std.specs.Prelude.{◌≡◌, ℕ, zero, suc, ◌+◌, ◌≤◌, Bool, true, false, List, [], ◌∷◌, length, Some, None, Option, nat_lt}
+use Rattle.pages.specs.Lists.{pick, those}
+use Rattle.recurrence.specs.Event.{Event, an_event, has, occurs}
 use Rattle.recurrence.specs.Span.{days_from}
 use Rattle.recurrence.specs.ByRule.{day_limit, fits, known, next_day}
-use Rattle.recurrence.specs.First.{Next}
+use Rattle.recurrence.specs.First.{Next, in_times}
 use Rattle.recurrence.specs.Week.{days_of, no_days, with_day}
 
 -- a day on which it falls is one of its number of times, left-out days counted too
 abbrev pub counts : Event → ℕ → Bool
-counts e d = or (e.repeat.times == 0) (nat_le (so_often e.repeat e.first (d - e.first)) e.repeat.times)
+counts e d = in_times e.repeat e.first d
 
 -- a day on which it falls is the answer, unless it is past its times or left out; go: how to go on after one that is left out
 unfoldable pub unless_left_out : Event → (ℕ → Option ℕ) → Option ℕ → Option ℕ

@@ -1,9 +1,10 @@
 -- What the events of the code stand for. Assumes nothing: these are definitions.
-use Rattle.std.specs.Prelude.{ℕ, cond, List, ◌==◌}
+use Rattle.std.specs.Prelude.{◌≡◌, ℕ, ◌<◌, ◌≤◌, cond, List, ◌==◌, Result, MatchResult}
 use Rattle.recurrence.specs.Event.{Repeat as MeantRepeat, Event as MeantEvent}
 use Rattle.recurrence.specs.Week.{days_of}
 use Rattle.recurrence.specs.declared.event.Kind.{Kind}
 use Rattle.recurrence.specs.declared.event.Kind.TheVariants.{Once, Daily, Weekly, Monthly, MonthlyByWeekday, MonthlyByLastWeekday, Yearly}
+use Rattle.recurrence.specs.declared.event.UnknownKind.{UnknownKind}
 use Rattle.recurrence.specs.declared.event.Repeat.{Repeat}
 use Rattle.recurrence.specs.declared.event.Event.{Event}
 
@@ -21,6 +22,10 @@ abbrev pub kind_of : ℕ → Kind
 kind_of n =
     cond (n == 0) Once (cond (n == 1) Daily (cond (n == 2) Weekly (cond (n == 3) Monthly
     (cond (n == 4) MonthlyByWeekday (cond (n == 5) MonthlyByLastWeekday Yearly)))))
+
+-- what is read of a number: its kind, or that no kind has it
+abbrev pub KindOf : ℕ → Result Kind UnknownKind → Type 0
+KindOf n r = MatchResult r (λ k. (n ≤ 6) × (k ≡ kind_of n)) (λ e. (6 < n) × (e.0 ≡ n))
 
 abbrev pub repeat_of : Repeat → MeantRepeat
 repeat_of r = record { kind = kind_number r.kind; step = r.step; weekdays = days_of r.weekdays; times = r.times; last = r.last }

@@ -1,9 +1,13 @@
 // An event by value, without its title and the days left out, which are lists and stay where they are lent.
 ghost use Rattle.std.specs.Prelude.{◌≡◌, false, slice_index_or};
+ghost use Rattle.recurrence.specs.Value.{kind_number, KindOf};
 ghost use Rattle.recurrence.specs.Week.{with_day, no_days, flags};
 
+use std::error::Error;
+use std::fmt;
+
 // On which days an event falls, from its first to its last.
-#[derive(Clone, Copy)]
+#[derive(Clone, Copy, Debug, PartialEq, Eq)]
 pub enum Kind {
     Once,
     Daily,
@@ -18,7 +22,55 @@ pub enum Kind {
     Yearly,
 }
 
-#[derive(Clone, Copy)]
+// A number that no kind has.
+#[derive(Clone, Copy, Debug, PartialEq, Eq)]
+pub struct UnknownKind(pub u8);
+
+impl From<Kind> for u8 {
+    ghost from_gives = { λ kind number. number ≡ kind_number kind };
+
+    fn from(kind: Kind) -> u8 {
+        match kind {
+            Kind::Once => 0,
+            Kind::Daily => 1,
+            Kind::Weekly => 2,
+            Kind::Monthly => 3,
+            Kind::MonthlyByWeekday => 4,
+            Kind::MonthlyByLastWeekday => 5,
+            Kind::Yearly => 6,
+        }
+    }
+}
+
+impl TryFrom<u8> for Kind {
+    type Error = UnknownKind;
+
+    ghost try_from_gives = { KindOf };
+
+    fn try_from(number: u8) -> Result<Kind, UnknownKind> {
+        match number {
+            0 => Ok(Kind::Once),
+            1 => Ok(Kind::Daily),
+            2 => Ok(Kind::Weekly),
+            3 => Ok(Kind::Monthly),
+            4 => Ok(Kind::MonthlyByWeekday),
+            5 => Ok(Kind::MonthlyByLastWeekday),
+            6 => Ok(Kind::Yearly),
+            _ => Err(UnknownKind(number)),
+        }
+    }
+}
+
+impl fmt::Display for UnknownKind {
+    fn fmt<W: fmt::Write>(&self, f: &mut fmt::Formatter<W>) -> fmt::Result {
+        write!(f, "no kind of event has number {}", self.0)
+    }
+}
+
+impl Error for UnknownKind {}
+
+// A flag for each, by name: the definitions and the layout of a page name the days, and a list would have a length to be proved.
+#[derive(Clone, Copy, Debug, PartialEq, Eq)]
 pub struct Weekdays {
     pub monday: bool,
     pub tuesday: bool,
@@ -97,19 +149,19 @@ impl Weekdays {
     }
 }
 
-#[derive(Clone, Copy)]
+#[derive(Clone, Copy, Debug, PartialEq, Eq)]
 pub struct Repeat {
     pub kind: Kind,
     // Every so many days, weeks, months or years.
     pub step: u64,
     pub weekdays: Weekdays,
-    // How many of its days count, the earliest; 0 for all.
+    // How many of its days count, the earliest; 0 for all, as commands and pages spell it.
     pub times: u64,
     // The last day on which it may fall.
     pub last: u64,
 }
 
-#[derive(Clone, Copy)]
+#[derive(Clone, Copy, Debug, PartialEq, Eq)]
 pub struct Event {
     pub zone: u8,
     // The first day, and the minute of the day by its zone's clocks.

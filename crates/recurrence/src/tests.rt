@@ -2,8 +2,9 @@
 ghost use Rattle.std.specs.Prelude.{◌<◌};
 
 use crate::event::*;
-use crate::rule::Answer;
+use crate::rule::NotKnown;
 use std::process::Abort;
+use std::test::Fail;
 
 // Day 0 is Saturday, 1 January 2000.
 const FRIDAY: u64 = 13;
@@ -70,21 +71,10 @@ fn tells(
     next: Option<u64>,
     count: Option<u64>,
 ) {
-    let told = match event.next_occurrence(left_out, day) {
-        Answer::On(next) => Some(next),
-        Answer::Never | Answer::NotKnown => None,
-    };
-    let today = match next {
-        Some(next) => next == day,
-        None => false,
-    };
-    let occurs = match count {
-        Some(_) => Some(today),
-        None => None,
-    };
-    assert_eq!(rt; told, next);
-    assert_eq!(rt; event.repeat.count(event.first, day), count);
-    assert_eq!(rt; event.occurs(left_out, day), occurs);
+    let occurs = count.map(|_| next == Some(day));
+    assert_eq!(rt; event.next_occurrence(left_out, day).unwrap_or(None), next);
+    assert_eq!(rt; event.repeat.count(event.first, day).ok(), count);
+    assert_eq!(rt; event.occurs(left_out, day).ok(), occurs);
 }
 
 #[test]
@@ -166,6 +156,26 @@ fn other_kinds_and_a_step_of_0_are_not_known(rt: HostRuntime) {
     );
 }
 
+#[test]
+fn kinds_by_number(rt: HostRuntime) {
+    for number in 0..7u8 {
+        assert_eq!(rt; Kind::try_from(number).map(u8::from), Ok(number));
+    }
+    assert_eq!(rt; Kind::try_from(7u8), Err(UnknownKind(7)));
+}
+
+#[test]
+fn what_is_said_of_the_unknown(rt: HostRuntime) -> Result<(), Fail> {
+    let kind = format!(in rt.alloc(); "{}", UnknownKind(7))?;
+    assert_eq!(rt; kind.as_str(), "no kind of event has number 7");
+    let event = format!(in rt.alloc(); "{NotKnown}")?;
+    assert_eq!(rt;
+        event.as_str(),
+        "its kind is not known here, or a number is out of range"
+    );
+    Ok(())
+}
+
 // The numbers of a well-known generator, of which the upper bits serve.
 fn drawn(seed: u64) -> u64 {
     seed.wrapping_mul(6_364_136_223_846_793_005)
@@ -204,10 +214,7 @@ fn look(event: Event, left_out: [u64; 3], day: u64) -> (Option<u64>, u64) {
             if d <= day {
                 count = all;
             }
-            let kept = (times == 0 || all <= times)
-                && d != left_out[0]
-                && d != left_out[1]
-                && d != left_out[2];
+            let kept = (times == 0 || all <= times) && !left_out.contains(&d);
             if kept && d >= day && next.is_none() {
                 next = Some(d);
             }

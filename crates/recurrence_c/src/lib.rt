@@ -1,4 +1,5 @@
 // Recurrence for callers in C.
+// Named for C here alone, so that programs which use the crate don't export the name.
 #![tactic(auto)]
 
 ghost use Rattle.std.specs.Prelude.{◌≡◌};

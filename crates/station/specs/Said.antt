@@ -1,24 +1,14 @@
 -- The commands that values of the code stand for. Assumes nothing: these are definitions.
-use Rattle.std.specs.Prelude.{ℕ, vec_items}
+use Rattle.std.specs.Prelude.{vec_items}
 use Rattle.dates.specs.Zone.{Zone}
 use Rattle.dates.specs.declared.zone.Zone.{Zone as CodeZone}
 use Rattle.recurrence.specs.Event.{Event, Repeat}
+use Rattle.recurrence.specs.Value.{kind_number}
 use Rattle.records.specs.Command.{Command, busy_times, change, drop_event, free, join, list, next_one, put, shown, skip, zone}
-use Rattle.station.specs.declared.command.Kind.{Kind}
-use Rattle.station.specs.declared.command.Kind.TheVariants.{Once, Days, Weeks, Months, SameWeekday, LastWeekday, Years}
 use Rattle.station.specs.declared.command.Repeat.{Repeat as CodeRepeat}
 use Rattle.station.specs.declared.command.Event.{Event as CodeEvent}
 use Rattle.station.specs.declared.command.Command.{Command as CodeCommand}
 use Rattle.station.specs.declared.command.Command.TheVariants.{Join, Zone as SetZone, Put, Change, DropEvent, Skip, List, Busy, Free, Next, Shown}
-
-abbrev pub kind_of : Kind → ℕ
-kind_of Once = 0
-kind_of Days = 1
-kind_of Weeks = 2
-kind_of Months = 3
-kind_of SameWeekday = 4
-kind_of LastWeekday = 5
-kind_of Years = 6
 
 abbrev pub zone_of : CodeZone → Zone
 zone_of z = record {
@@ -33,7 +23,7 @@ zone_of z = record {
 
 abbrev pub repeat_of : CodeRepeat → Repeat
 repeat_of r = record {
-  kind = kind_of r.kind;
+  kind = kind_number r.kind;
   step = r.step;
   weekdays = vec_items r.weekdays;
   times = r.times;
@@ -59,8 +49,8 @@ command_of (Put a e) = put a (event_of e)
 command_of (Change a n e) = change a n (event_of e)
 command_of (DropEvent a n) = drop_event a n
 command_of (Skip a n d) = skip a n d
-command_of (List a f t) = list a f t
-command_of (Busy ps f t) = busy_times (vec_items ps) f t
-command_of (Free ps k f t) = free (vec_items ps) k f t
+command_of (List a s) = list a s.from s.to
+command_of (Busy ps s) = busy_times (vec_items ps) s.from s.to
+command_of (Free ps k s) = free (vec_items ps) k s.from s.to
 command_of (Next a t) = next_one a t
 command_of (Shown a n) = shown a n

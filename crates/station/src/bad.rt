@@ -1,9 +1,10 @@
 // Why a line is not understood.
 use dates::read::Misread;
 use std::alloc::{AllocError, AllocFailed};
+use std::error::Error;
 use std::fmt;
 
-#[derive(Clone, Copy)]
+#[derive(Clone, Copy, Debug, PartialEq, Eq)]
 pub enum Bad {
     // What should stand there.
     Wants(&'static str),
@@ -20,6 +21,8 @@ impl fmt::Display for Bad {
         }
     }
 }
+
+impl Error for Bad {}
 
 impl From<Misread> for Bad {
     fn from(why: Misread) -> Bad {

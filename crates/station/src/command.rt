@@ -1,17 +1,7 @@
 // What can be said to a house.
 use dates::zone::Zone;
-
-// How an event comes again.
-#[derive(Clone, Copy)]
-pub enum Kind {
-    Once,
-    Days,
-    Weeks,
-    Months,
-    SameWeekday,
-    LastWeekday,
-    Years,
-}
+use records::command::Stretch;
+use recurrence::event::Kind;
 
 #[derive(Drop)]
 pub struct Repeat {
@@ -19,9 +9,9 @@ pub struct Repeat {
     pub step: u64,
     // Monday is 0.
     pub weekdays: Vec<u64>,
-    // 0 for no end.
+    // 0 for no end, as the command's bytes have it.
     pub times: u64,
-    // The last day on which it may fall.
+    // The last day on which it may fall: FOR_EVER for no end, as the command's bytes have it.
     pub last: u64,
 }
 
@@ -37,6 +27,7 @@ pub struct Event {
     pub left_out: Vec<u64>,
 }
 
+// As records' Command, with texts and lists of its own and no places in lent bytes.
 #[derive(Drop)]
 pub enum Command {
     Join {
@@ -66,19 +57,16 @@ pub enum Command {
     },
     List {
         person: u64,
-        from: u64,
-        to: u64,
+        stretch: Stretch,
     },
     Busy {
         people: Vec<u64>,
-        from: u64,
-        to: u64,
+        stretch: Stretch,
     },
     Free {
         people: Vec<u64>,
         long: u64,
-        from: u64,
-        to: u64,
+        stretch: Stretch,
     },
     Next {
         person: u64,

@@ -1,23 +1,24 @@
 // An event in words: "title" on DAY at TIME for LENGTH, and then what else is said of it.
 use crate::bad::Bad;
-use crate::command::{Event, Kind, Repeat};
+use crate::command::{Event, Repeat};
 use crate::numbers::{clock, day, expect, long, number, some_word};
 use crate::words::Words;
+use recurrence::event::Kind;
 use std::alloc::Global;
 
 // The last day on which an event may fall where nothing else is said.
-const FOR_EVER: u64 = 72_999;
+pub const FOR_EVER: u64 = 72_999;
+
+// Monday is 0.
+pub const WEEKDAYS: [&str; 7] = ["mon", "tue", "wed", "thu", "fri", "sat", "sun"];
 
 // What stands between the quotes of a word, or the word where it has none; nothing where the second is missing.
 fn unquoted(word: &[u8]) -> Option<&[u8]> {
-    let n = word.len();
-    if n == 0 || word[0] != b'"' {
-        return Some(word);
+    match word {
+        [b'"', text @ .., b'"'] => Some(text),
+        [b'"', ..] => None,
+        _ => Some(word),
     }
-    if n < 2 || word[n - 1] != b'"' {
-        return None;
-    }
-    Some(&word[1..n - 1])
 }
 
 // A word, or a text in quotes.
@@ -27,9 +28,9 @@ pub fn read_text(
     most: usize,
     wants: &'static str,
 ) -> Result<Vec<u8>, Bad> {
-    let Some(text) = unquoted(some_word(words, wants)?) else {
-        return Err(Bad::Wants("the closing quote is missing"));
-    };
+    let text = unquoted(some_word(words, wants)?).ok_or(Bad::Wants(
+        "the closing quote is missing",
+    ))?;
     if text.len() > most {
         return Err(Bad::Wants(wants));
     }
@@ -58,6 +59,7 @@ pub fn read_event(heap: Global, words: &mut Words<'_>) -> Result<Event, Bad> {
         repeat: once(heap),
         left_out: Vec::new(heap),
     };
+    // Counted, since a loop has to be seen to end: each word takes a byte at least.
     for _ in 0..words.left() {
         match words.next() {
             Some(word) => read_more(word, words, &mut event)?,
@@ -112,6 +114,7 @@ fn begins_with_digit(word: Option<&[u8]>) -> bool {
 
 fn read_days(words: &mut Words<'_>, days: &mut Vec<u64>) -> Result<(), Bad> {
     days.push(day(words)?)?;
+    // Counted, since a loop has to be seen to end: each word takes a byte at least.
     for _ in 0..words.left() {
         if !begins_with_digit(words.peek()) {
             break;
@@ -128,34 +131,28 @@ fn read_every(words: &mut Words<'_>, repeat: &mut Repeat) -> Result<(), Bad> {
     }
     let unit = some_word(words, wants)?;
     repeat.kind = match unit {
-        b"day" | b"days" => Kind::Days,
+        b"day" | b"days" => Kind::Daily,
         b"week" | b"weeks" => {
             read_weekdays(words, &mut repeat.weekdays)?;
-            Kind::Weeks
+            Kind::Weekly
         }
         b"month" | b"months" => read_months(words)?,
-        b"year" | b"years" => Kind::Years,
+        b"year" | b"years" => Kind::Yearly,
         _ => return Err(Bad::Wants(wants)),
     };
     Ok(())
 }
 
 fn weekday(word: Option<&[u8]>) -> Option<u64> {
-    match word? {
-        b"mon" => Some(0),
-        b"tue" => Some(1),
-        b"wed" => Some(2),
-        b"thu" => Some(3),
-        b"fri" => Some(4),
-        b"sat" => Some(5),
-        b"sun" => Some(6),
-        _ => None,
-    }
+    let word = word?;
+    let day = WEEKDAYS.iter().position(|name| name.as_bytes() == word)?;
+    Some(day as u64)
 }
 
 fn read_weekdays(words: &mut Words<'_>, weekdays: &mut Vec<u64>) -> Result<(), Bad> {
     let wants = "weeks on and some of mon tue wed thu fri sat sun";
     expect(words, b"on", wants)?;
+    // Counted, since a loop has to be seen to end: each word takes a byte at least.
     for _ in 0..words.left() {
         let Some(n) = weekday(words.peek()) else {
             break;
@@ -175,12 +172,12 @@ fn read_weekdays(words: &mut Words<'_>, weekdays: &mut Vec<u64>) -> Result<(), B
 fn read_months(words: &mut Words<'_>) -> Result<Kind, Bad> {
     let wants = "months, months on the same weekday, or months on the last weekday";
     if !words.skip(b"on") {
-        return Ok(Kind::Months);
+        return Ok(Kind::Monthly);
     }
     expect(words, b"the", wants)?;
     let kind = match some_word(words, wants)? {
-        b"same" => Kind::SameWeekday,
-        b"last" => Kind::LastWeekday,
+        b"same" => Kind::MonthlyByWeekday,
+        b"last" => Kind::MonthlyByLastWeekday,
         _ => return Err(Bad::Wants(wants)),
     };
     expect(words, b"weekday", wants)?;

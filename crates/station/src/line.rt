@@ -2,7 +2,7 @@
 use crate::bad::Bad;
 use crate::command::Command;
 use crate::event::{read_event, read_text, read_zone};
-use crate::numbers::{day, event_number, long, people, person, some_word, time};
+use crate::numbers::{day, event_number, long, people, person, some_word, stretch, time};
 use crate::spell::put_command;
 use crate::words::Words;
 use crate::zones::read_zone_rules;
@@ -46,10 +46,7 @@ pub fn read_line<'a>(heap: Global, words: &mut Words<'a>) -> Result<Line<'a>, Ba
 
 fn read_hex(heap: Global, words: &mut Words<'_>) -> Result<Vec<u8>, Bad> {
     let wants = "hex and a command's bytes in pairs of hexadecimal digits, or - for none";
-    match hex::read(heap, some_word(words, wants)?)? {
-        Some(bytes) => Ok(bytes),
-        None => Err(Bad::Wants(wants)),
-    }
+    hex::read(heap, some_word(words, wants)?)?.ok_or(Bad::Wants(wants))
 }
 
 fn read_command(heap: Global, first: &[u8], words: &mut Words<'_>) -> Result<Command, Bad> {
@@ -88,19 +85,16 @@ fn read_question(heap: Global, first: &[u8], words: &mut Words<'_>) -> Result<Co
     match first {
         b"list" => Ok(Command::List {
             person: person(words)?,
-            from: time(words)?,
-            to: time(words)?,
+            stretch: stretch(words)?,
         }),
         b"busy" => Ok(Command::Busy {
             people: people(heap, words)?,
-            from: time(words)?,
-            to: time(words)?,
+            stretch: stretch(words)?,
         }),
         b"free" => Ok(Command::Free {
             people: people(heap, words)?,
             long: long(words)?,
-            from: time(words)?,
-            to: time(words)?,
+            stretch: stretch(words)?,
         }),
         b"next" => Ok(Command::Next {
             person: person(words)?,

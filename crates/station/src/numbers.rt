@@ -2,14 +2,13 @@
 use crate::bad::Bad;
 use crate::words::Words;
 use dates::calendar::LAST_DAY;
-use dates::read::{read_clock, read_date, read_length};
+use dates::civil::Date;
+use dates::text::{Clock, Length};
+use records::command::Stretch;
 use std::alloc::Global;
 
 pub fn some_word<'a>(words: &mut Words<'a>, wants: &'static str) -> Result<&'a [u8], Bad> {
-    match words.next() {
-        Some(word) => Ok(word),
-        None => Err(Bad::Wants(wants)),
-    }
+    words.next().ok_or(Bad::Wants(wants))
 }
 
 // Goes past a word that has to stand there.
@@ -22,13 +21,8 @@ pub fn expect(words: &mut Words<'_>, word: &[u8], wants: &'static str) -> Result
 }
 
 pub fn parse_number(word: &[u8], wants: &'static str) -> Result<u64, Bad> {
-    let Ok(text) = std::str::from_utf8(word) else {
-        return Err(Bad::Wants(wants));
-    };
-    match text.parse::<u64>() {
-        Ok(n) => Ok(n),
-        Err(_) => Err(Bad::Wants(wants)),
-    }
+    let text = std::str::from_utf8(word).map_err(|_| Bad::Wants(wants))?;
+    text.parse::<u64>().map_err(|_| Bad::Wants(wants))
 }
 
 pub fn number(words: &mut Words<'_>, wants: &'static str) -> Result<u64, Bad> {
@@ -54,9 +48,7 @@ const PEOPLE: &str = "people are numbers with commas between them, as 0,2";
 // People with commas between them, in rising order.
 pub fn people(heap: Global, words: &mut Words<'_>) -> Result<Vec<u64>, Bad> {
     let word = some_word(words, PEOPLE)?;
-    let Ok(text) = std::str::from_utf8(word) else {
-        return Err(Bad::Wants(PEOPLE));
-    };
+    let text = std::str::from_utf8(word).map_err(|_| Bad::Wants(PEOPLE))?;
     let mut all = Vec::new(heap);
     for part in text.split(',') {
         all.push(parse_person(part.as_bytes())?)?;
@@ -71,7 +63,7 @@ pub fn event_number(words: &mut Words<'_>) -> Result<u64, Bad> {
 }
 
 pub fn parse_day(word: &[u8]) -> Result<u64, Bad> {
-    Ok(read_date(word)?.to_day())
+    Ok(Date::try_from(word)?.to_day())
 }
 
 pub fn day(words: &mut Words<'_>) -> Result<u64, Bad> {
@@ -79,11 +71,12 @@ pub fn day(words: &mut Words<'_>) -> Result<u64, Bad> {
 }
 
 pub fn clock(words: &mut Words<'_>) -> Result<u64, Bad> {
-    Ok(read_clock(some_word(words, "a time of day stands here, as 07:00")?)?)
+    Ok(Clock::try_from(some_word(words, "a time of day stands here, as 07:00")?)?.0)
 }
 
 pub fn long(words: &mut Words<'_>) -> Result<u64, Bad> {
-    Ok(read_length(some_word(words, "a length in hours and minutes stands here, as 2:00")?)?)
+    let word = some_word(words, "a length in hours and minutes stands here, as 2:00")?;
+    Ok(Length::try_from(word)?.0)
 }
 
 fn minutes(day: u64, minute: u64) -> Result<u64, Bad> {
@@ -101,11 +94,18 @@ pub fn time(words: &mut Words<'_>) -> Result<u64, Bad> {
     )?;
     if word.len() > 10 && word[10] == b'T' {
         let (date, clock) = word.split_at(10);
-        return minutes(parse_day(date)?, read_clock(&clock[1..])?);
+        return minutes(parse_day(date)?, Clock::try_from(&clock[1..])?.0);
     }
     let day = parse_day(word)?;
     match words.peek() {
         Some(next) if next.len() < 10 && next.contains(&b':') => minutes(day, clock(words)?),
         _ => minutes(day, 0),
     }
+}
+
+pub fn stretch(words: &mut Words<'_>) -> Result<Stretch, Bad> {
+    Ok(Stretch {
+        from: time(words)?,
+        to: time(words)?,
+    })
 }

@@ -1,8 +1,8 @@
 // Rows in words.
-use crate::parts::Parts;
 use crate::shown::{put_event_words, put_quoted};
 use dates::text::{Length, Time};
-use host::house::Shows;
+use host::machine::Shows;
+use host::parts::{NoWords, Parts};
 use pages::hex;
 use std::alloc::Global;
 use std::io;
@@ -12,6 +12,7 @@ use std::io::Write;
 #[derive(Drop)]
 pub struct Answer {
     pub text: Vec<u8>,
+    // By number: hex says any bytes, and the first is the command's number.
     pub code: u8,
 }
 
@@ -30,10 +31,11 @@ impl Shows for Answer {
     }
 }
 
-// Writes a row of the answer to a command, by the command's number; in hexadecimal digits where it is no such row.
+// Writes a row of the answer to a command, by the command's number; in hexadecimal digits where it has no words.
+// As the board's: one function for both would take two closures for these few lines.
 fn put_row(answer: &mut Vec<u8>, code: u8, row: &[u8]) -> io::Result<()> {
     let start = answer.len();
-    if put_words(answer, code, row).is_none() {
+    if put_words(answer, code, row).is_err() {
         answer.truncate(start);
         write!(answer, "row ")?;
         hex::write(answer, row)?;
@@ -41,43 +43,49 @@ fn put_row(answer: &mut Vec<u8>, code: u8, row: &[u8]) -> io::Result<()> {
     writeln!(answer, "")
 }
 
-fn put_words(answer: &mut Vec<u8>, code: u8, row: &[u8]) -> Option<()> {
+// The numbers of commands are those that stand first in their bytes.
+fn put_words(answer: &mut Vec<u8>, code: u8, row: &[u8]) -> Result<(), NoWords> {
     let mut parts = Parts::new(row);
     match code {
         1 => {
             let n = parts.eight()?;
-            write!(answer, "person {n}").ok()?;
+            write!(answer, "person {n}")?;
         }
         3 => {
             let n = parts.eight()?;
-            write!(answer, "event {n}").ok()?;
+            write!(answer, "event {n}")?;
         }
         7 | 10 => put_span(answer, &mut parts)?,
         8 => {
-            put_time(answer, parts.eight()?)?;
-            write!(answer, " to ").ok()?;
-            put_time(answer, parts.eight()?)?;
+            put_time(answer, &mut parts)?;
+            write!(answer, " to ")?;
+            put_time(answer, &mut parts)?;
         }
-        9 => put_time(answer, parts.eight()?)?,
+        9 => put_time(answer, &mut parts)?,
         11 => put_event_words(answer, &mut parts)?,
-        _ => return None,
+        _ => return Err(NoWords),
     }
-    if parts.is_empty() { Some(()) } else { None }
+    if parts.is_empty() {
+        Ok(())
+    } else {
+        Err(NoWords)
+    }
 }
 
-fn put_time(answer: &mut Vec<u8>, minutes: u64) -> Option<()> {
-    let time = Time::at(minutes)?;
-    write!(answer, "{time}").ok()
+fn put_time(answer: &mut Vec<u8>, parts: &mut Parts<'_>) -> Result<(), NoWords> {
+    let time = Time::at(parts.eight()?).ok_or(NoWords)?;
+    write!(answer, "{time}")?;
+    Ok(())
 }
 
 // When it begins, how long it is, its number and its title.
-fn put_span(answer: &mut Vec<u8>, parts: &mut Parts<'_>) -> Option<()> {
+fn put_span(answer: &mut Vec<u8>, parts: &mut Parts<'_>) -> Result<(), NoWords> {
     let from = parts.eight()?;
     let to = parts.eight()?;
     let number = parts.eight()?;
     let title = parts.text()?;
-    let long = Length(to.checked_sub(from)?);
-    put_time(answer, from)?;
-    write!(answer, " {long} event {number} ").ok()?;
+    let long = Length(to.checked_sub(from).ok_or(NoWords)?);
+    let time = Time::at(from).ok_or(NoWords)?;
+    write!(answer, "{time} {long} event {number} ")?;
     put_quoted(answer, title)
 }

@@ -1,100 +1,99 @@
 // An event in the words that put takes.
-use crate::parts::Parts;
+use crate::event::{FOR_EVER, WEEKDAYS};
 use dates::civil::Date;
 use dates::text::{Clock, Length};
+use host::parts::{NoWords, Parts};
+use recurrence::event::Kind;
 use std::io::Write;
 
-const FOR_EVER: u64 = 72_999;
-
-// A text in quotes; what is not printed stands as its number.
-pub fn put_quoted(answer: &mut Vec<u8>, text: &[u8]) -> Option<()> {
-    answer.push(b'"').ok()?;
+// A text in quotes; what is not printed stands as its number. It need not be UTF-8, so it is no Display.
+pub fn put_quoted(answer: &mut Vec<u8>, text: &[u8]) -> Result<(), NoWords> {
+    answer.push(b'"')?;
     for b in text {
-        if *b < 32 || *b == 127 {
+        if b.is_ascii_control() {
             let n = *b;
-            write!(answer, "\\{n}").ok()?;
+            write!(answer, "\\{n}")?;
         } else {
-            answer.push(*b).ok()?;
+            answer.push(*b)?;
         }
     }
-    answer.push(b'"').ok()
+    answer.push(b'"')?;
+    Ok(())
 }
 
-fn put_day(answer: &mut Vec<u8>, day: u64) -> Option<()> {
-    let date = Date::from_day(day)?;
-    write!(answer, "{date}").ok()
+fn day(parts: &mut Parts<'_>) -> Result<Date, NoWords> {
+    Date::from_day(parts.eight()?).ok_or(NoWords)
 }
 
-pub fn put_event_words(answer: &mut Vec<u8>, parts: &mut Parts<'_>) -> Option<()> {
+pub fn put_event_words(answer: &mut Vec<u8>, parts: &mut Parts<'_>) -> Result<(), NoWords> {
     put_quoted(answer, parts.text()?)?;
     let zone = parts.byte()?;
-    write!(answer, " on ").ok()?;
-    put_day(answer, parts.eight()?)?;
+    let first = day(parts)?;
     let minute = Clock(parts.eight()?);
     let long = Length(parts.eight()?);
-    write!(answer, " at {minute} for {long}").ok()?;
+    write!(answer, " on {first} at {minute} for {long}")?;
     if zone != 0 {
-        write!(answer, " zone {zone}").ok()?;
+        write!(answer, " zone {zone}")?;
     }
     if parts.byte()? == 0 {
-        write!(answer, " free").ok()?;
+        write!(answer, " free")?;
     }
     put_repeat_words(answer, parts)?;
-    let count = parts.eight()?;
-    if count > 0 {
-        write!(answer, " without").ok()?;
-    }
-    for _ in 0..count {
-        write!(answer, " ").ok()?;
-        put_day(answer, parts.eight()?)?;
-    }
-    Some(())
+    put_left_out(answer, parts)
 }
 
-fn put_repeat_words(answer: &mut Vec<u8>, parts: &mut Parts<'_>) -> Option<()> {
+fn put_left_out(answer: &mut Vec<u8>, parts: &mut Parts<'_>) -> Result<(), NoWords> {
+    let count = parts.eight()?;
+    if count > 0 {
+        write!(answer, " without")?;
+    }
+    for _ in 0..count {
+        let day = day(parts)?;
+        write!(answer, " {day}")?;
+    }
+    Ok(())
+}
+
+// Kind is another crate's, so its words here are no Display.
+fn unit(kind: Kind) -> &'static str {
+    match kind {
+        Kind::Once => "once",
+        Kind::Daily => "days",
+        Kind::Weekly => "weeks on",
+        Kind::Monthly => "months",
+        Kind::MonthlyByWeekday => "months on the same weekday",
+        Kind::MonthlyByLastWeekday => "months on the last weekday",
+        Kind::Yearly => "years",
+    }
+}
+
+fn put_repeat_words(answer: &mut Vec<u8>, parts: &mut Parts<'_>) -> Result<(), NoWords> {
     let kind = parts.byte()?;
+    let kind = Kind::try_from(kind).map_err(|_| NoWords)?;
     let step = parts.eight()?;
-    let unit = match kind {
-        0 => "once",
-        1 => "days",
-        2 => "weeks on",
-        3 => "months",
-        4 => "months on the same weekday",
-        5 => "months on the last weekday",
-        6 => "years",
-        _ => return None,
-    };
-    if kind != 0 {
-        write!(answer, " every {step} {unit}").ok()?;
+    if kind != Kind::Once {
+        let unit = unit(kind);
+        write!(answer, " every {step} {unit}")?;
     }
     let count = parts.eight()?;
     for _ in 0..count {
         let name = weekday_name(parts.eight()?)?;
-        if kind == 2 {
-            write!(answer, " {name}").ok()?;
+        if kind == Kind::Weekly {
+            write!(answer, " {name}")?;
         }
     }
     let times = parts.eight()?;
     let last = parts.eight()?;
     if last != FOR_EVER {
-        write!(answer, " until ").ok()?;
-        put_day(answer, last)?;
+        let last = Date::from_day(last).ok_or(NoWords)?;
+        write!(answer, " until {last}")?;
     }
     if times != 0 {
-        write!(answer, " times {times}").ok()?;
+        write!(answer, " times {times}")?;
     }
-    Some(())
+    Ok(())
 }
 
-fn weekday_name(n: u64) -> Option<&'static str> {
-    match n {
-        0 => Some("mon"),
-        1 => Some("tue"),
-        2 => Some("wed"),
-        3 => Some("thu"),
-        4 => Some("fri"),
-        5 => Some("sat"),
-        6 => Some("sun"),
-        _ => None,
-    }
+fn weekday_name(n: u64) -> Result<&'static str, NoWords> {
+    WEEKDAYS.get(n as usize).copied().ok_or(NoWords)
 }

@@ -1,5 +1,6 @@
 // The words of a line, one after the other.
-ghost use Rattle.std.specs.Prelude.{◌≤◌, length};
+ghost use Rattle.std.specs.Prelude.{◌<◌, ◌≤◌, length, IfSome};
+ghost use Rattle.std.specs.Iterator.{at_most};
 
 #[derive(Drop)]
 pub struct Words<'a> {
@@ -10,16 +11,15 @@ pub struct Words<'a> {
 fn word_end(line: &[u8]) -> usize
     ensures { result ≤ length line.now }
 {
-    let quoted = !line.is_empty() && line[0] == b'"';
-    for (i, b) in line.iter().enumerate() {
-        if quoted && *b == b'"' && i > 0 {
-            return i + 1;
-        }
-        if !quoted && b.is_ascii_whitespace() {
-            return i;
-        }
+    if let [b'"', text @ ..] = line {
+        text.iter()
+            .position(|b| *b == b'"')
+            .map_or(line.len(), |i| i + 2)
+    } else {
+        line.iter()
+            .position(u8::is_ascii_whitespace)
+            .unwrap_or(line.len())
     }
-    line.len()
 }
 
 impl<'a> Words<'a> {
@@ -32,27 +32,42 @@ impl<'a> Words<'a> {
         self.rest.len()
     }
 
-    pub fn next(&mut self) -> Option<&'a [u8]> {
+    // The next word, and what stands behind it.
+    fn split(&self) -> Option<(&'a [u8], &'a [u8])>
+        ensures { IfSome result (λ (word, rest). length rest.now < length self.now.rest.now) }
+    {
         let line = self.rest.trim_ascii_start();
         let (word, rest) = line.split_at(word_end(line));
-        self.rest = rest;
-        if word.is_empty() { None } else { Some(word) }
+        if word.is_empty() {
+            None
+        } else {
+            Some((word, rest))
+        }
     }
 
     pub fn peek(&self) -> Option<&'a [u8]> {
-        let line = self.rest.trim_ascii_start();
-        let (word, _) = line.split_at(word_end(line));
-        if word.is_empty() { None } else { Some(word) }
+        let (word, _) = self.split()?;
+        Some(word)
     }
 
     // Goes past the next word if it is this one.
     pub fn skip(&mut self, word: &[u8]) -> bool {
-        match self.peek() {
-            Some(next) if next == word => {
-                let _ = self.next();
-                true
-            }
-            _ => false,
+        let found = self.peek() == Some(word);
+        if found {
+            let _ = self.next();
         }
+        found
+    }
+}
+
+impl<'a> Iterator for Words<'a> {
+    type Item = &'a [u8];
+
+    ghost remaining = { λ words. at_most (length words.rest.now) };
+
+    fn next(&mut self) -> Option<&'a [u8]> {
+        let (word, rest) = self.split()?;
+        self.rest = rest;
+        Some(word)
     }
 }

@@ -3,7 +3,7 @@
 use crate::bad::Bad;
 use crate::numbers::{clock, expect, long, number, some_word};
 use crate::words::Words;
-use dates::read::read_length;
+use dates::text::Length;
 use dates::zone::{Sunday, Zone};
 
 pub fn read_zone_rules(words: &mut Words<'_>) -> Result<Zone, Bad> {
@@ -59,18 +59,17 @@ const EAST: &str = "east stands from -12:00 to +14:00, as +1:00 or -5:00";
 // Minutes east, and 720 more.
 fn read_east(word: &[u8]) -> Result<u64, Bad> {
     let east = match word {
-        [b'-', west @ ..] => 720u64.checked_sub(read_length(west)?),
-        [b'+', east @ ..] => Some(720 + read_length(east)?),
-        _ => Some(720 + read_length(word)?),
+        [b'-', west @ ..] => 720u64.checked_sub(Length::try_from(west)?.0),
+        [b'+', east @ ..] => Some(720 + Length::try_from(east)?.0),
+        _ => Some(720 + Length::try_from(word)?.0),
     };
-    match east {
-        Some(minutes) if minutes <= 1560 => Ok(minutes),
-        _ => Err(Bad::Wants(EAST)),
-    }
+    east.filter(|minutes| *minutes <= 1560)
+        .ok_or(Bad::Wants(EAST))
 }
 
 fn read_sunday(words: &mut Words<'_>) -> Result<Sunday, Bad> {
     let wants = "a sunday stands here, as last sunday of 10";
+    // As Sunday has it: 5 is the last.
     let week = match some_word(words, wants)? {
         b"first" => 1,
         b"second" => 2,

@@ -1,4 +1,4 @@
-use Rattle.engine_next.specs.Entry.{StepNumbered}
+use Rattle.engine.specs.Entry.{StepNumbered}
 use Rattle.engine_next.proofs.boomdate_step.Goals as goal
 
 pub returns : goal.returns

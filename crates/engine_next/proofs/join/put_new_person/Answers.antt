@@ -8,5 +8,4 @@ returns c =
     let m = c.args.memory.now in
     let l = c.args.r.long in
     let z : l - 0 ≡ l = omega arith in
-    person_put (c.args.r.people % 4) l (l - 0) (name_in l m) _ _ c.args.bytes.now _ _ _ m _ z (length_name l m (omega arith) (omega arith)) c.name.ensures (omega arith)
-    c.put_row.ensures c.put_person.ensures c.put_batch.ensures
+    person_put (c.args.r.people % 4) l (l - 0) (name_in l m) _ _ c.args.bytes.now _ m _ z (length_name l m (omega arith) (omega arith)) c.name.ensures c.put_person.ensures c.put_batch.ensures

@@ -1,14 +1,12 @@
-use Rattle.std.proofs.Common.{arith, rules}
-use Rattle.std.proofs.lemmas.List.{take_all, drop_all, append-nil}
-use Rattle.pages.proofs.Header.{head_read, length_heads}
-use Rattle.pages.proofs.Over.{over_more}
+use Rattle.std.proofs.Common.{◌≡◌, ◌/◌, length, drop, take, replicate, refl, ap, ◌∙◌, arith}
+use Rattle.std.proofs.lemmas.List.{length-drop, length-take-le}
+use Rattle.pages.proofs.ByteByByte.{at_once}
+use Rattle.pages.proofs.Header.{heads_at_once}
 use Rattle.pages.proofs.heads.read_header.Goals as goal
 
-pub loop-i-preserved : goal.loop-i-preserved
-loop-i-preserved c =
-    let e = head_read c.args.page.now c.loop-i.i _ c.number.result c.loop-i-test.true (omega arith) c.number.ensures in
-    let l = length_heads c.args.page.now in
-    search (rules, over_more)
-
 pub returns : goal.returns
-returns c = let l = length_heads c.args.page.now in search (rules, take_all, drop_all, append-nil)
+returns c =
+    let d = length-drop 256 c.args.page.now in
+    let l : length (take 256 (drop 256 c.args.page.now)) ≡ 256 = length-take-le 256 _ (omega arith) in
+    c.put_each.ensures at_once (λ x r p. p)
+    ∙ heads_at_once c.args.page.now c.as_chunks.result.0.now _ (replicate 32 0) (omega arith) refl (ap (λ n. n / 8) l) c.as_chunks.ensures.front

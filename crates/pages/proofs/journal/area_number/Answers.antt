@@ -7,4 +7,4 @@ use Rattle.pages.proofs.journal.area_number.Goals as goal
 
 pub returns : goal.returns
 unfolding head_number at number
-returns c = c.number.ensures ∙ ap (from_eight 0) (take-take 8 8 _ (omega arith))
+returns c = c.number.ensures ∙ ap (from_eight 0) (take-take 8 248 _ (omega arith))

@@ -1,12 +1,31 @@
-use Rattle.std.proofs.Common.{rules}
-use Rattle.records.proofs.Rows.{climbs_more, climbs_low, climbs_high, climbs_all}
+use Rattle.std.proofs.Common.{◌/◌, length, sym, ◌∙◌, arith}
+use Rattle.records.proofs.Rows.{number_of_chunk, climbs_more, climbs_all, climbs_low, climbs_high}
 use Rattle.records.proofs.field.rises.Goals as goal
+use Rattle.records.proofs.field.rises.Goals.{then-n-least-via-then-n-least, then-n-least-via-else-n-least+then-n-hi}
 
 pub returns-then-n-least : goal.returns-then-n-least
-returns-then-n-least c = search (rules, climbs_low, climbs_high)
+returns-then-n-least c =
+    let t = c.args.numbers.now in
+    let m = length t / 8 in
+    let i = c.loop-eight.eight-index in
+    let l = c.as_chunks.ensures.front_len in
+    let n = number_of_chunk _ m i _ t c.as_chunks.ensures.front (omega arith) c.number-n.ensures in
+    elim c.then-n-least.branch [
+      | then-n-least-via-then-n-least w ↦ sym (climbs_low m i _ c.args.hi _ t (omega arith) n w.if-n-least.true) ∙ c.loop-eight.invariant
+      | then-n-least-via-else-n-least+then-n-hi w ↦ sym (climbs_high m i _ c.args.hi _ t (omega arith) n w.if-n-least.false w.if-n-hi.true) ∙ c.loop-eight.invariant
+    ]
 
-pub loop-i-preserved : goal.loop-i-preserved
-loop-i-preserved c = search (rules, climbs_more)
+pub loop-eight-preserved : goal.loop-eight-preserved
+loop-eight-preserved c =
+    let t = c.args.numbers.now in
+    let m = length t / 8 in
+    let i = c.loop-eight.eight-index in
+    let l = c.as_chunks.ensures.front_len in
+    let n = number_of_chunk _ m i _ t c.as_chunks.ensures.front (omega arith) c.number-n.ensures in
+    climbs_more m i _ c.args.hi _ t (omega arith) n c.if-n-least.false c.if-n-hi.false ∙ c.loop-eight.invariant
 
 pub returns : goal.returns
-returns c = search (rules, climbs_all)
+returns c =
+    let t = c.args.numbers.now in
+    let l = c.as_chunks.ensures.front_len in
+    sym (climbs_all (length t / 8) c.loop-eight.eight-index _ _ t _ (omega arith)) ∙ c.loop-eight.invariant

@@ -1,6 +1,7 @@
-use Rattle.std.proofs.Common.{◌≡◌, ◌+◌, ◌-◌, ◌*◌}
+use Rattle.std.proofs.Common.{◌≡◌, ◌-◌, ◌*◌, ◌/◌, length}
 use Rattle.records.specs.Reader.{climbs}
 use Rattle.records.proofs.field.rises.Given as goal
 
-abbrev pub invariant-loop-i : goal.invariant-loop-i
-invariant-loop-i l = climbs (l.count - l.i) l.least l.hi l.bytes (l.start + 8 * l.i) ≡ climbs l.count l.lo l.hi l.bytes l.start
+abbrev pub invariant-loop-eight : goal.invariant-loop-eight
+invariant-loop-eight l =
+    climbs (length l.numbers / 8 - l.eight-index) l.least l.hi l.numbers (8 * l.eight-index) ≡ climbs (length l.numbers / 8) l.lo l.hi l.numbers 0

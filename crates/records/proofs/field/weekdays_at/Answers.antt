@@ -1,15 +1,16 @@
-use Rattle.std.proofs.Common.{sym, rules}
-use Rattle.records.proofs.Inside.{row_inside}
+use Rattle.std.proofs.Common.{rules}
+use Rattle.recurrence.specs.Week.{no_days}
 use Rattle.records.specs.Reader.{weekdays}
+use Rattle.records.proofs.Rows.{marks_cut}
 use Rattle.records.proofs.field.weekdays_at.Goals as goal
 
-pub marked-requires : goal.marked-requires
-marked-requires c = row_inside 0 7 0 6 c.args.bytes.now c.args.at (c.in-Some.part, c.in-Some.next) (sym c.in-Some.ensures)
-
-pub returns-in_default : goal.returns-in_default
+pub returns-in_err-part : goal.returns-in_err-part
 unfolding weekdays
-returns-in_default c = search rules
+returns-in_err-part c = search rules
 
 pub returns : goal.returns
 unfolding weekdays
-returns c = search rules
+returns c =
+    let i = c.in_ok-part.ensures.inside in
+    let m = marks_cut c.in_ok-part.part.count c.in_ok-part.part.start c.in_ok-part.next c.args.bytes.now no_days i.0 i.1 in
+    search rules

@@ -8,4 +8,4 @@ pub returns : goal.returns
 returns c =
     let n = length c.args.text.now in
     let l = length_eight n in
-    record { end = search rules; row = more_at c.args.at (c.args.at + 8) (eight n) c.args.text.now c.args.out.now _ _ (omega arith) c.put_wide.ensures (omega arith) c.put_bytes.ensures }
+    record { end = search rules; row = more_at c.args.at (c.args.at + 8) (eight n) c.args.text.now c.args.out.now _ _ (omega arith) c.put_number.ensures (omega arith) c.put_bytes.ensures }

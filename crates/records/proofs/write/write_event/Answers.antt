@@ -10,10 +10,10 @@ use Rattle.records.proofs.write.write_event.Goals as goal
 
 pub returns : goal.returns
 returns c =
-    let t = c.args.title.now in
-    let d = c.args.left_out.now in
+    let t = c.args.entry.now.title.now in
+    let d = c.args.entry.now.left_out.now in
     let y = c.args.out.now in
-    let e = c.args.event in
+    let e = c.args.entry.now.event in
     let l0 = length_text t in
     let l2 = length_numbers d in
     let w0 : Wrote 0 (with_length t) y c.put_text-at.new.out c.put_text-at.result = record { row = c.put_text-at.ensures.row; end = omega (arith, c.put_text-at.ensures.end) } in

@@ -20,12 +20,12 @@ module _ (x f : Date) (w k a l d : ℕ) where
 pub dated-requires : goal.dated-requires
 dated-requires c =
     let x = c.args.self in
-    let n = found x c.first_of_month.result c.args.weekday c.args.nth _ _ _ c.first_of_month.ensures (omega arith) (omega arith) c.weekday.ensures c.month_length.ensures c.nth_day-day.ensures in
+    let n = found x c.first_of_month.result c.args.weekday c.args.nth _ _ _ c.first_of_month.ensures (grind (arith, nat_tests)) (grind (arith, nat_tests)) c.weekday.ensures c.month_length.ensures c.nth_day-day.ensures in
     (n.0, x.last)
 
 pub returns : goal.returns
 returns c =
     let x = c.args.self in
-    let n = found x c.first_of_month.result c.args.weekday c.args.nth _ _ _ c.first_of_month.ensures (omega arith) (omega arith) c.weekday.ensures c.month_length.ensures c.nth_day-day.ensures in
+    let n = found x c.first_of_month.result c.args.weekday c.args.nth _ _ _ c.first_of_month.ensures (grind (arith, nat_tests)) (grind (arith, nat_tests)) c.weekday.ensures c.month_length.ensures c.nth_day-day.ensures in
     let e = c.dated.ensures in
     (grind (arith, nat_tests), rw n.1 at e.of, e.is.year, e.is.month)

@@ -1,7 +1,0 @@
-use Rattle.std.proofs.Common.{rules}
-use Rattle.records.specs.Reader.{number_at}
-use Rattle.records.proofs.field.number.Goals as goal
-
-pub returns : goal.returns
-unfolding number_at
-returns c = search rules

@@ -1,6 +1,0 @@
-use Rattle.std.proofs.Common.{rules}
-use Rattle.pages.proofs.Placed.{placed_byte}
-use Rattle.records.proofs.write.put_byte.Goals as goal
-
-pub returns : goal.returns
-returns c = search (rules, placed_byte)

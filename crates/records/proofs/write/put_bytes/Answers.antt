@@ -1,6 +1,0 @@
-use Rattle.std.proofs.Common.{rules}
-use Rattle.pages.proofs.Placed.{placed_bytes}
-use Rattle.records.proofs.write.put_bytes.Goals as goal
-
-pub returns : goal.returns
-returns c = search (rules, placed_bytes)
