@@ -75,6 +75,7 @@ fn page_came(memory: &mut Memory, bytes: &[u8], out: &mut Row) -> Result<Act, Re
     let Some(page) = page_of(bytes) else {
         return Err(Refusal::Fault);
     };
+    // A match: each arm is a line of the definition for what is awaited.
     match Phase::from(house.registers.phase) {
         Phase::Waking(stage) => wake_page(memory, house, stage, page, out),
         Phase::Committing(part) => commit_page(memory, house.registers, part, page, out),
@@ -90,6 +91,7 @@ fn go_on(memory: &mut Memory, out: &mut Row) -> Result<Act, Refusal>
     let Some(house) = load(memory).housed() else {
         return Err(Refusal::Fault);
     };
+    // A match: each arm is a line of the definition for what is awaited.
     match Phase::from(house.registers.phase) {
         Phase::Waking(stage) => wake_next(memory, house.registers, stage, out),
         Phase::Committing(part) => commit_next(memory, house.registers, part, out),

@@ -101,6 +101,7 @@ pub(crate) fn put_head(memory: &mut Memory, head: &Header)
     memory[3904..3936].copy_from_slice(head);
 }
 
+// A name is a part of lent bytes, so its length is asked for.
 pub(crate) fn put_name(memory: &mut Memory, name: &[u8])
     requires name_len_bound { length name.now ≤ 64 }
     ensures { memory.new ≡ with_name name.now memory.old }
@@ -128,6 +129,7 @@ pub(crate) fn root(memory: &Memory, page: &mut Page)
     put_low_bytes(page, &memory[3392..3904]);
 }
 
+// A page of the batch, of which there are 29: i was compared where it comes from.
 pub(crate) fn put_batch(memory: &mut Memory, i: u64, page: &Page)
     requires i_bound { i < 29 }
     ensures { memory.new ≡ with_batch i page.now memory.old }

@@ -20,7 +20,7 @@ use pages::side::Side;
 use pages::waking::{Recovery, Stage};
 use pages::words::{blank_row, put_row};
 
-// What is written, into the front of the row.
+// What is written, into the front of the row. Bytes are a page or none, so a slice, and at most 512 are asked for.
 fn fill(memory: &Memory, content: Content, bytes: &[u8], out: &mut Row)
     requires bytes_len_bound { length bytes.now ≤ 512 }
     requires content_bound { in_content content < 29 }

@@ -15,7 +15,7 @@ pub const FEWEST: u64 = 256;
 
 pub const MOST: u64 = 1_048_576;
 
-// Whether a house may have so many pages on each side.
+// Whether a house may have so many pages on each side. As engine's, said as a fact and by no Bool: Sides has it as a ghost field.
 pub fn is_house(pages: u64) -> bool
     ensures { IsTrue result ↔ Housed pages }
 {

@@ -51,7 +51,7 @@ impl House {
         })
     }
 
-    // Power comes.
+    // Power comes. The same is promised here, of a command and of how a run ended, as it is handed on.
     pub fn power<S: Shows>(&mut self, rows: &mut S) -> Result<(), Undone>
         ensures numbered { IfErr result Numbered }
     {

@@ -115,7 +115,7 @@ impl Machine {
         })
     }
 
-    // Power comes: memory is all 0 then.
+    // Power comes: memory is all 0 then. The same is promised here, of a command and of a run, as it is handed on.
     pub fn power<D: Devices, S: Shows>(
         &mut self,
         most: u64,
@@ -152,6 +152,7 @@ impl Machine {
         ensures none { most ≡ 0 → result ≡ Ok End.StillRunning }
     {
         let mut next = None;
+        // Counted: how many acts it may do is what is meant.
         for _ in 0..most {
             let answer = match next {
                 None => tell(self.memory.as_mut_slice(), event, self.out.as_mut_slice()),

@@ -61,7 +61,7 @@ fn open(head: &mut Header, area: u64)
     head[1] = area;
 }
 
-// A page of the batch into its slot.
+// A page of the batch into its slot. That i is below 29 is asked for: it was compared where it comes from.
 fn slotted(side: Side, head: &Header, i: u64) -> Step<Commit>
     requires { i < 29 }
     ensures is { result ≡ slotted side head.now i }
@@ -145,6 +145,7 @@ impl Commit {
             return None;
         }
         let i = self.at;
+        // A match: each arm is a line of the definition for what is awaited.
         match self.part {
             Part::Slot(Side::First) => Some(slotted(Side::Second, head, i)),
             Part::Slot(Side::Second) => Some(slots(head, i + 1)),

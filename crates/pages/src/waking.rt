@@ -180,6 +180,7 @@ impl Recovery {
         if !self.is_in_range() {
             return None;
         }
+        // A match: each arm is a line of the definition for what is awaited.
         match self.stage {
             Stage::Asking => Some(self.going(
                 Stage::Copying,
@@ -209,6 +210,7 @@ impl Recovery {
         if !self.is_in_range() {
             return None;
         }
+        // A match: each arm is a line of the definition for what is awaited.
         match self.stage {
             Stage::Wiping => Some(self.wipe(self.at + 1)),
             Stage::Marking => Some(self.copy(Side::First, 1)),

@@ -1,4 +1,4 @@
-// Bytes kept in the numbers of a memory, one in each; and rows of bytes.
+// Bytes kept in the numbers of a memory, one in each; and rows of bytes. Room for what is put is asked for by each: both lengths are the caller's.
 ghost use Rattle.std.specs.Prelude.{◌≡◌, ◌*◌, ◌≤◌, ◌++◌, drop, length, map};
 ghost use Rattle.pages.specs.Bytes.{eight, low_bytes, over};
 ghost use Rattle.pages.specs.Device.{zeros};

@@ -121,6 +121,7 @@ pub fn read_line(heap: Global, line: &[u8]) -> Result<Line, Bad> {
 }
 
 fn read_item(heap: Global, first: &str, words: &mut SplitWhitespace<'_>) -> Result<Item, Bad> {
+    // The words are given: docs/FORMATS.md has them.
     match first {
         "power" => Ok(Item::Power),
         "power-stops" => Ok(Item::PowerStops {

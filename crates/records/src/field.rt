@@ -1,4 +1,5 @@
 // The fields that commands are made of. Each reader takes a text and a place in it, and gives what stands there with the place behind it.
+// A text that shrinks would be no plainer: each contract is one equation with a definition over the text and the place.
 ghost use Rattle.std.specs.Prelude.{◌≡◌, ℕ, ◌+◌, ◌*◌, ◌/◌, ◌<◌, ◌≤◌, List, Option, IfSome, length, slice_index};
 ghost use Rattle.std.specs.Ordering.{partial_le};
 ghost use Rattle.records.specs.Reader.{number_at, wide, narrow, text, climbs, part, row, marks, weekdays};

@@ -100,7 +100,7 @@ pub fn has_name(page: &Page, count: u64, name: &[u8]) -> bool
     (0..count as usize).any(|a| is_named(&page[128 * a..], name))
 }
 
-// The record of somebody who joins.
+// The record of somebody who joins. A name is a part of lent bytes, so its length is asked for.
 fn new_person(name: &[u8]) -> [u8; 128]
     requires { length name.now ≤ 64 }
     ensures { result ≡ new_person name.now }

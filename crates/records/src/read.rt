@@ -118,6 +118,7 @@ fn end_at(bytes: &[u8], at: usize, command: Command) -> Option<Command>
     (at == bytes.len()).then_some(command)
 }
 
+// Each command has a reader of its own, those of a person and an event too: each is one line of the format, with its definition.
 fn join(bytes: &[u8]) -> Option<Command>
     ensures { result ≡ find_join bytes.now }
 {

@@ -20,7 +20,7 @@ pub type Body = [u8; 3450];
 // What a first page says.
 #[derive(Clone, Copy, Debug, PartialEq, Eq)]
 pub struct First {
-    // The address of the next event of the same person.
+    // The address of the next event of the same person; 0 where there is none, as the page has it.
     pub link: u64,
     pub number: u64,
     // How long the title is, and how many days are left out.

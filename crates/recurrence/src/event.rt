@@ -69,7 +69,7 @@ impl fmt::Display for UnknownKind {
 
 impl Error for UnknownKind {}
 
-// A flag for each, by name: the definitions and the layout of a page name the days, and a list would have a length to be proved.
+// A flag for each, by name, as the definitions and the layout of a page name the days; for an array in a struct in a tuple the check writes no proof.
 #[derive(Clone, Copy, Debug, PartialEq, Eq)]
 pub struct Weekdays {
     pub monday: bool,

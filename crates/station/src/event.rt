@@ -59,7 +59,7 @@ pub fn read_event(heap: Global, words: &mut Words<'_>) -> Result<Event, Bad> {
         repeat: once(heap),
         left_out: Vec::new(heap),
     };
-    // Counted, since a loop has to be seen to end: each word takes a byte at least.
+    // Counted, since a loop has to be seen to end, and the readers that it calls promise nothing of the words that are left.
     for _ in 0..words.left() {
         match words.next() {
             Some(word) => read_more(word, words, &mut event)?,
@@ -82,6 +82,7 @@ fn once(heap: Global) -> Repeat {
 }
 
 fn read_more(word: &[u8], words: &mut Words<'_>, event: &mut Event) -> Result<(), Bad> {
+    // The words are given: docs/FORMATS.md has them.
     match word {
         b"zone" => event.zone = read_zone(words)?,
         b"free" => event.busy = false,
@@ -114,7 +115,7 @@ fn begins_with_digit(word: Option<&[u8]>) -> bool {
 
 fn read_days(words: &mut Words<'_>, days: &mut Vec<u64>) -> Result<(), Bad> {
     days.push(day(words)?)?;
-    // Counted, since a loop has to be seen to end: each word takes a byte at least.
+    // Counted, since a loop has to be seen to end, and the readers that it calls promise nothing of the words that are left.
     for _ in 0..words.left() {
         if !begins_with_digit(words.peek()) {
             break;
@@ -152,7 +153,7 @@ fn weekday(word: Option<&[u8]>) -> Option<u64> {
 fn read_weekdays(words: &mut Words<'_>, weekdays: &mut Vec<u64>) -> Result<(), Bad> {
     let wants = "weeks on and some of mon tue wed thu fri sat sun";
     expect(words, b"on", wants)?;
-    // Counted, since a loop has to be seen to end: each word takes a byte at least.
+    // Counted, since a loop has to be seen to end, and the readers that it calls promise nothing of the words that are left.
     for _ in 0..words.left() {
         let Some(n) = weekday(words.peek()) else {
             break;

@@ -50,6 +50,7 @@ fn read_hex(heap: Global, words: &mut Words<'_>) -> Result<Vec<u8>, Bad> {
 }
 
 fn read_command(heap: Global, first: &[u8], words: &mut Words<'_>) -> Result<Command, Bad> {
+    // The words are given: docs/FORMATS.md has them.
     match first {
         b"join" => Ok(Command::Join {
             name: read_text(heap, words, 64, "a name stands here, of 1 to 64 bytes")?,
@@ -82,6 +83,7 @@ fn read_command(heap: Global, first: &[u8], words: &mut Words<'_>) -> Result<Com
 
 // The commands that change nothing.
 fn read_question(heap: Global, first: &[u8], words: &mut Words<'_>) -> Result<Command, Bad> {
+    // The words are given: docs/FORMATS.md has them.
     match first {
         b"list" => Ok(Command::List {
             person: person(words)?,

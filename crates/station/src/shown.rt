@@ -47,6 +47,7 @@ fn put_left_out(answer: &mut Vec<u8>, parts: &mut Parts<'_>) -> Result<(), NoWor
     if count > 0 {
         write!(answer, " without")?;
     }
+    // Counted: the row says how many days follow.
     for _ in 0..count {
         let day = day(parts)?;
         write!(answer, " {day}")?;
@@ -76,6 +77,7 @@ fn put_repeat_words(answer: &mut Vec<u8>, parts: &mut Parts<'_>) -> Result<(), N
         write!(answer, " every {step} {unit}")?;
     }
     let count = parts.eight()?;
+    // Counted: the row says how many weekdays follow.
     for _ in 0..count {
         let name = weekday_name(parts.eight()?)?;
         if kind == Kind::Weekly {
