@@ -1,5 +1,6 @@
 -- The two sides, and deeds whose numbers are in their ranges. Assumes nothing: these are definitions.
-use Rattle.std.specs.Prelude.{ℕ, ◌+◌, ◌*◌, ◌<◌}
+use Rattle.std.specs.Prelude.{◌≡◌, ℕ, ◌+◌, ◌*◌, ◌<◌, MatchResult, Result}
+use Rattle.pages.specs.declared.side.NoSide.{NoSide}
 use Rattle.pages.specs.declared.side.Side.{Side}
 use Rattle.pages.specs.declared.side.Side.TheVariants.{First, Second}
 use Rattle.pages.specs.declared.deed.Content.{Content}
@@ -11,6 +12,10 @@ use Rattle.pages.specs.declared.deed.Deed.TheVariants.{Read, Write, Ready}
 abbrev pub side_number : Side → ℕ
 side_number First = 0
 side_number Second = 1
+
+-- the side of a number, where it has one
+abbrev pub SideOf : ℕ → Result Side NoSide → Type 0
+SideOf n r = MatchResult r (λ s. n ≡ side_number s) (λ e. (1 < n) × (e.0 ≡ n))
 
 abbrev pub other : Side → Side
 other First = Second

@@ -1,6 +1,9 @@
 // The two devices, side by side.
 ghost use Rattle.std.specs.Prelude.{◌≡◌};
-ghost use Rattle.pages.specs.Deeds.{other, side_number};
+ghost use Rattle.pages.specs.Deeds.{SideOf, other, side_number};
+
+use std::error::Error;
+use std::fmt;
 
 #[derive(Clone, Copy, Debug, PartialEq, Eq)]
 pub enum Side {
@@ -29,3 +32,30 @@ impl From<Side> for u64 {
         }
     }
 }
+
+// A number that no side has.
+#[derive(Clone, Copy, Debug, PartialEq, Eq)]
+pub struct NoSide(pub u64);
+
+// Of 0 and 1 alone.
+impl TryFrom<u64> for Side {
+    type Error = NoSide;
+
+    ghost try_from_gives = { SideOf };
+
+    fn try_from(number: u64) -> Result<Side, NoSide> {
+        match number {
+            0 => Ok(Side::First),
+            1 => Ok(Side::Second),
+            _ => Err(NoSide(number)),
+        }
+    }
+}
+
+impl fmt::Display for NoSide {
+    fn fmt<W: fmt::Write>(&self, f: &mut fmt::Formatter<W>) -> fmt::Result {
+        write!(f, "no side has number {}", self.0)
+    }
+}
+
+impl Error for NoSide {}

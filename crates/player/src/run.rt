@@ -104,12 +104,9 @@ impl House {
                 ran
             }
             Item::Loses(side) => {
-                // Numbered as the script has it: pages reads no side from a number, and no other comes here.
-                self.devices.lose(if *side == 0 {
-                    Side::First
-                } else {
-                    Side::Second
-                });
+                // No number of no side comes here.
+                self.devices
+                    .lose(Side::try_from(*side).unwrap_or(Side::Second));
                 self.both = false;
                 return writeln!(answer.text, "lost");
             }
