@@ -77,6 +77,19 @@ pub year_to_last : (n : ℕ) → n ≤ 73048 → (date_of n).year ≤ 2199
 unfolding date_of
 year_to_last n h = grind (arith, nat_tests)
 
+-- a date and the day after, in the same month, over its end and over the year's
+pub next_day : (y m d : ℕ) → In y m d → day_of y m (d + 1) ≡ day_of y m d + 1
+unfolding day_of
+next_day y m d a = grind (arith, nat_tests)
+
+pub next_month : (y m d : ℕ) → In y m d → month_days y m ≤ d → m < 12 → day_of y (m + 1) 1 ≡ day_of y m d + 1
+unfolding day_of month_days
+next_month y m d a h l = grind (arith, nat_tests)
+
+pub next_year : (y m d : ℕ) → In y m d → month_days y m ≤ d → 12 ≤ m → day_of (y + 1) 1 1 ≡ day_of y m d + 1
+unfolding day_of month_days
+next_year y m d a h l = grind (arith, nat_tests)
+
 -- the first of a month is a date
 pub first_in : (y m : ℕ) → 2000 ≤ y → 1 ≤ m → m ≤ 12 → In y m 1
 unfolding month_days

@@ -113,7 +113,15 @@ impl Date {
     pub fn next(self) -> Option<Date>
         ensures { MatchOption result (number_of self ≡ 73048) (λ x. Of x (number_of self + 1)) }
     {
-        Date::from_day(self.to_day() + 1)
+        if self.day < month_length(self.year, self.month) {
+            Some(dated(self.year, self.month, self.day + 1))
+        } else if self.month < 12 {
+            Some(dated(self.year, self.month + 1, 1))
+        } else if self.year < LAST_YEAR {
+            Some(dated(self.year + 1, 1, 1))
+        } else {
+            None
+        }
     }
 
     // The first of its month.
