@@ -1,4 +1,5 @@
 pub mod Dates
 pub mod Own
+pub mod Months
 mod ReadBack
 mod Padded
