@@ -41,6 +41,21 @@ rises (k ∷ ks) h zero (suc j) l m = rises_head k ks j h (omega arith)
 rises (k ∷ ks) h (suc i) zero l m = absurd (omega arith)
 rises (k ∷ ks) h (suc i) (suc j) l m = rises ks (rises_tail k ks h) i j (omega arith) (omega arith)
 
+-- where a day can still be in a rising list: what is before low is earlier, and what is from high on is later
+abbrev pub Between : List ℕ → ℕ → ℕ → ℕ → Type 0
+Between ks x low high =
+    rising ks ≡ true → ((i : ℕ) → i < low → get_or ks i 0 < x) × ((i : ℕ) → high ≤ i → i < length ks → x < get_or ks i 0)
+
+pub between_above : (ks : List ℕ) (x low high i : ℕ) → Between ks x low high → i < length ks → get_or ks i 0 < x → Between ks x (i + 1) high
+between_above ks x low high i h l m r = ((λ j k. omega (arith, rises ks r j i (omega arith) l)), (h r).1)
+
+pub between_below : (ks : List ℕ) (x low high i : ℕ) → Between ks x low high → x < get_or ks i 0 → Between ks x low i
+between_below ks x low high i h m r = ((h r).0, λ j k l. omega (arith, rises ks r i j k l))
+
+pub between_none : (ks : List ℕ) (x low high : ℕ) → Between ks x low high → high ≤ low → rising ks ≡ true → has ks x ≡ false
+between_none ks x low high h m r =
+    has_none ks x (λ i l e. elim (cases_lt i low) [ inl k ↦ absurd (omega (arith, (h r).0 i k)) | inr k ↦ absurd (omega (arith, (h r).1 i (omega arith) l)) ])
+
 -- what a search by halves finds is there, and in a rising list it misses nothing
 pub searched_there : (ks : List ℕ) (x : ℕ) (r : Result ℕ ℕ) → IsBinarySearchResult (λ y. nat_cmp y x) ks r → IsSearchInRange r (length ks) → is_ok r ≡ true → has ks x ≡ true
 searched_there ks x (Ok i) h b k =

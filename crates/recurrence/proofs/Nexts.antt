@@ -1,15 +1,17 @@
 -- The first day from one on, by each kind.
-use Rattle.std.proofs.Common.{◌≡◌, ℕ, zero, suc, ◌+◌, ◌-◌, ◌*◌, ◌%◌, ◌<◌, ◌≤◌, max, Bool, true, false, ◌&&◌, eqb, ◌⊎◌, Some, None, Option, sym, refl, ap, ◌∙◌, inl, inr, mod-lt, arith, MatchOption, nat_eq}
+use Rattle.std.proofs.Common.{◌≡◌, ℕ, zero, suc, ◌+◌, ◌-◌, ◌*◌, ◌%◌, ◌<◌, ◌≤◌, max, Bool, true, false, ◌&&◌, eqb, ◌⊎◌, Some, None, Option, Result, sym, refl, ap, ◌∙◌, inl, inr, mod-lt, add-one, arith, MatchOption, nat_eq}
 use Rattle.std.specs.List.{find, range_with_len}
 use Rattle.std.specs.Option.{option_eq}
 use Rattle.std.proofs.lemmas.Bool.Decides.{nat_tests}
 use Rattle.std.proofs.lemmas.Bool.{cases_Bool, cases_lt, cases_eq, le-leb, lt-leb, eq-eqb, ne_eqb, and_right, and_left}
+use Rattle.pages.specs.Lists.{pick}
 use Rattle.dates.specs.Date.{weekday, week}
-use Rattle.recurrence.specs.Event.{Repeat, has, falls}
-use Rattle.recurrence.specs.ByRule.{fits, known, next_daily, on_from, in_week, or_else, weeks_past, next_weekly, up_to, next_due, next_day}
+use Rattle.recurrence.specs.Event.{Repeat, has, falls, so_often}
+use Rattle.recurrence.specs.ByRule.{fits, known, next_daily, on_from, in_week, or_else, weeks_past, next_weekly, up_to, next_due, next_day, often}
 use Rattle.recurrence.specs.Value.{repeat_of}
 use Rattle.recurrence.specs.declared.rule.Rule.{Rule}
-use Rattle.recurrence.specs.First.{First, NoneFrom, Next, RulesRight}
+use Rattle.recurrence.specs.First.{First, NoneFrom, Next, RulesRight, answer, Tells}
+use Rattle.recurrence.specs.declared.rule.NotKnown.{NotKnown}
 use Rattle.recurrence.proofs.Steps.{sum_past, sum_whole, due, falls_past, falls_due, fits_parts}
 use Rattle.recurrence.proofs.Counting.{often_is}
 
@@ -51,6 +53,15 @@ on_from_is on w (suc n) =
     more : (o : Option ℕ) → Among on (suc w) n o → on w ≡ false → Among on w (suc n) o
     more None a h = λ t l m. here t l h (λ k. a t k (omega arith))
     more (Some x) a h = (omega (arith, a.0), record { comes = a.1.comes; from = omega (arith, a.1.from); first = λ t p q. here t p h (λ k. a.1.first t k q) })
+
+-- one turn of a loop over the week
+pub on_from_turn : (on : ℕ → Bool) (w : ℕ) → w < 7 → on_from on w (7 - w) ≡ pick (on w) (Some w) (on_from on (w + 1) (7 - (w + 1)))
+unfolding on_from
+on_from_turn on w l = let e : 7 - w ≡ suc (7 - suc w) = omega arith in rw (e, add-one)
+
+pub on_from_end : (on : ℕ → Bool) (w : ℕ) → 7 ≤ w → on_from on w (7 - w) ≡ None
+unfolding on_from
+on_from_end on w l = let e : 7 - w ≡ 0 = omega arith in rw e
 
 -- as `find` gives it, by a test of the same days
 pub found_from : (on test : ℕ → Bool) → ((k : ℕ) → on k ≡ test k) → (w n : ℕ) → find test (range_with_len w n) ≡ on_from on w n
@@ -197,6 +208,18 @@ rules_right r f h = let p = fits_parts r f h in ((λ d. next_is r f d h), λ n. 
 
 pub known_fits : (r : Repeat) (f d : ℕ) → known r f d ≡ true → fits r f ≡ true
 known_fits r f d h = grind (arith, nat_tests)
+
+-- the answer of the code
+told : (k : Bool) (p : ℕ → Bool) (a : ℕ) (o : Option ℕ) → (k ≡ true → Next p a o) → Tells k p a (answer k o)
+told false p a o h = refl
+told true p a o h = (refl, h refl)
+
+pub next_told : (r : Repeat) (f d : ℕ) (a : Result (Option ℕ) NotKnown) → a ≡ answer (known r f d) (next_day r f d) → Tells (known r f d) (falls r f) d a
+next_told r f d a e =
+    rw e (told (known r f d) (falls r f) d (next_day r f d) (λ h. next_is r f d (known_fits r f d h)))
+
+pub count_told : (r : Repeat) (f d n : ℕ) → known r f d ≡ true → often r f n ≡ so_often r f n
+count_told r f d n h = let p = fits_parts r f (known_fits r f d h) in often_is r f p.0 p.1 n
 
 pub next_some : (r : Repeat) (f d x : ℕ) → fits r f ≡ true → Some x ≡ next_day r f d → First (falls r f) d x
 next_some r f d x h e = rw (sym e) at (next_is r f d h)

@@ -29,6 +29,17 @@ not_falling e t h = occurs_is e t ∙ rw h
 pub not_kept : (e : Event) (t : ℕ) → has e.left_out t ≡ true → occurs e t ≡ false
 not_kept e t h = occurs_is e t ∙ (let g = falls e.repeat e.first t in grind (arith, nat_tests))
 
+-- by the first day from it on, on which it falls
+pub occurs_not_yet : (e : Event) (d x : ℕ) → First (falls e.repeat e.first) d x → d < x → occurs e d ≡ false
+occurs_not_yet e d x h l = not_falling e d (h.first d (omega arith) l)
+
+pub occurs_now : (e : Event) (d x : ℕ) → First (falls e.repeat e.first) d x → x ≤ d → occurs e d ≡ (counts e d && not (has e.left_out d))
+occurs_now e d x h l =
+    let m : d ≤ x = h.from in
+    let q : x ≡ d = omega arith in
+    let f : falls e.repeat e.first d ≡ true = rw (sym q) h.comes in
+    occurs_is e d ∙ rw f
+
 -- past its times for good
 pub not_counted : (e : Event) (x t : ℕ) → x ≤ t → counts e x ≡ false → occurs e t ≡ false
 not_counted e x t l h =
@@ -178,10 +189,10 @@ all_known e d h k l =
     let p = and_parts _ _ h in
     within e.repeat e.first d (and_parts _ _ p.1).0 (and_parts _ _ (and_parts _ _ (and_parts _ _ p.0).1).0).0 k l
 
--- a day on which it falls is far below every limit
-falls_small : (r : Repeat) (f x : ℕ) → fits r f ≡ true → falls r f x ≡ true → x < day_limit
+-- it is known on a day on which it falls, far below every limit, and on the day after
+known_on : (r : Repeat) (f x : ℕ) → fits r f ≡ true → falls r f x ≡ true → (known r f x ≡ true) × (known r f (x + 1) ≡ true) × (x < day_limit)
 unfolding falls
-falls_small r f x h k = grind (arith, nat_tests)
+known_on r f x h k = (grind (arith, nat_tests), grind (arith, nat_tests), grind (arith, nat_tests))
 
 -- a turn of the search: it has passed over the days from a to d, and next it falls on x, or never
 module _ (e : Event) (a d : ℕ) (fit : fits e.repeat e.first ≡ true) where
@@ -195,14 +206,17 @@ module _ (e : Event) (a d : ℕ) (fit : fits e.repeat e.first ≡ true) where
     next_x : First (falls e.repeat e.first) d x
     next_x = next_some e.repeat e.first d x fit n
 
+    pub turn_known : (known e.repeat e.first x ≡ true) × (known e.repeat e.first (x + 1) ≡ true) × (x < day_limit)
+    turn_known = known_on e.repeat e.first x fit next_x.comes
+
     pub turn_small : x < day_limit
-    turn_small = falls_small e.repeat e.first x fit next_x.comes
+    turn_small = turn_known.2
 
     pub turn_fewer : has e.left_out x ≡ true → left_from e.left_out (x + 1) < left_from e.left_out d
     turn_fewer t = left_fewer e.left_out d x next_x.from t
 
-    pub turn_over : a ≤ d → Passed e a d → has e.left_out x ≡ true → (a ≤ x + 1) × Passed e a (x + 1)
-    turn_over l h t = (omega (arith, next_x.from), passed_over e a x (passed_to e a d x h next_x) t)
+    pub turn_over : a ≤ d → Passed e a d → has e.left_out x ≡ true → (known e.repeat e.first (x + 1) ≡ true) × (a ≤ x + 1) × Passed e a (x + 1)
+    turn_over l h t = (turn_known.1, omega (arith, next_x.from), passed_over e a x (passed_to e a d x h next_x) t)
 
     pub turn_out : Passed e a d → counts e x ≡ false → None ≡ next_occurrence e a
     turn_out h c = found None (passed_out e a x (passed_to e a d x h next_x) c)

@@ -40,8 +40,10 @@ loop-next-preserved c =
     let o = c.in_ok-rule.ensures in
     let fit = known_fits (repeat_of c.args.self.repeat) c.args.self.first c.args.from o.0 in
     let n = rw (o.1, o.2) at c.in-Some.ensures in
+    let over =
     turn_over (event_with c.args.self [] c.args.left_out.now) c.args.from c.loop-next.day fit c.in-Some.next n c.loop-next.invariant.0 c.loop-next.invariant.1
-    (c.if-not-is_left_out.ensures.there refl)
+    (c.if-not-is_left_out.ensures.there refl) in
+    (over.1, over.2)
 
 pub returns-clause-is : goal.returns-clause-is
 returns-clause-is c up =
