@@ -101,23 +101,24 @@ pub fn has_name(page: &Page, count: u64, name: &[u8]) -> bool
 }
 
 // The record of somebody who joins. A name is a part of lent bytes, so its length is asked for.
-fn new_person(name: &[u8]) -> [u8; 128]
-    requires { length name.now ≤ 64 }
-    ensures { result ≡ new_person name.now }
+fn fill_person(row: &mut [u8], name: &[u8])
+    requires row_of_128 { length row.old ≡ 128 }
+    requires name_at_most_64 { length name.now ≤ 64 }
+    ensures { row.new ≡ new_person name.now }
 {
-    let mut row = [0; 128];
-    put_byte(&mut row, 0, name.len() as u8);
-    put_number(&mut row, 1, 8, 1);
-    put_number(&mut row, 9, 4, 0);
-    put_bytes(&mut row, 13, name);
-    row
+    row.copy_from_slice(&[0; 128]);
+    put_byte(row, 0, name.len() as u8);
+    put_number(row, 1, 8, 1);
+    put_number(row, 9, 4, 0);
+    put_bytes(row, 13, name);
 }
 
-// A page with the record of somebody who joins.
+// A page with the record of somebody who joins, filled where it lies.
 pub fn put_person(page: &mut Page, place: u64, name: &[u8])
     requires place_below_4 { place < 4 }
     requires name_at_most_64 { length name.now ≤ 64 }
     ensures { page.new ≡ put_block place (new_person name.now) page.old }
 {
-    put_bytes(page, 128 * place as usize, &new_person(name));
+    let start = 128 * place as usize;
+    fill_person(&mut page[start..start + 128], name);
 }
