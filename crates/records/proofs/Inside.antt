@@ -1,12 +1,21 @@
 -- What was found lies within the text.
 use Rattle.std.proofs.Common.{◌≡◌, ℕ, ◌+◌, ◌-◌, ◌*◌, ◌/◌, ◌<◌, ◌≤◌, min, Bool, true, false, cond, ◌&&◌, leb, List, length, take, drop, Some, None, Option, refl, ap, ◌∙◌, subst, mul_comm, arith, length-drop}
 use Rattle.std.proofs.lemmas.List.{drop_min, take_min}
-use Rattle.std.proofs.lemmas.Bool.{le-leb, lt-leb}
+use Rattle.std.proofs.lemmas.Bool.{leb-true, le-leb, lt-leb, and_parts}
 use Rattle.std.proofs.lemmas.Nat.{mul-le}
 use Rattle.std.proofs.Math.Nat.{div-lt_iff_lt-mul, div-mul-le_self}
 use Rattle.records.specs.declared.command.Part.{Part}
 use Rattle.records.specs.Reader.{climbs, part, row, text, then, wide}
 use Rattle.records.proofs.Fields.{went, kept}
+
+pub row_inside : (few most lo hi : ℕ) (t : List ℕ) (k : ℕ) (x : Part × ℕ) → row few most lo hi t k ≡ Some x → x.0.start + 8 * x.0.count ≤ length t
+unfolding row
+row_inside few most lo hi t k x e =
+    let g = went _ _ _ e in
+    let n : wide few most t k ≡ Some g.got = g.was in
+    let c = kept _ _ _ g.goes in
+    let room : g.got.1 + 8 * g.got.0 ≤ length t = leb-true _ _ (and_parts _ _ c.holds).0 in
+    subst (λ (y : Part × ℕ). y.0.start + 8 * y.0.count ≤ length t) c.is room
 
 -- a part is none where its count is none, or where it is too long; text and rows of numbers are parts
 pub part_over : (w few most : ℕ) (t : List ℕ) (k n s : ℕ) → wide few most t k ≡ Some (n, s) → length t < s + w * n → part w few most t k ≡ None

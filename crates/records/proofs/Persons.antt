@@ -50,6 +50,9 @@ block_filled r m b p ys l e y = placed_bytes (128 * r) m b p ys (e ∙ sym l) y 
 abbrev pub named : Page → List ℕ → ℕ → Bool
 named p name a = same (name_in (block a p)) name
 
+pub named_part : (p : Page) (name : List ℕ) (a : ℕ) (t : Bool) → t ≡ same (name_in (take (length p - 128 * a) (drop (128 * a) p))) name → named p name a ≡ t
+named_part p name a t e = ap (λ r. same (name_in r) name) (sym (block_part a p)) ∙ sym e
+
 or_is : (a b : Bool) → (a || b) ≡ or a b
 or_is true b = refl
 or_is false b = refl
@@ -176,7 +179,20 @@ or_assoc : (a b c : Bool) → or a (or b c) ≡ or (or a b) c
 or_assoc true b c = refl
 or_assoc false b c = refl
 
--- nobody from the end on
+-- one more turn of a loop, and its ends
+any_more : (f : ℕ → Bool) (i n : ℕ) → i < n → any f (days_from i (n - i)) ≡ or (f i) (any f (days_from (i + 1) (n - (i + 1))))
+unfolding days_from
+any_more f i n h =
+    let e : n - i ≡ suc (n - (i + 1)) = omega arith in
+    let s : suc i ≡ i + 1 = omega arith in
+    rw (e, s)
+
+pub any_passed : (f : ℕ → Bool) (i n : ℕ) → i < n → f i ≡ false → any f (days_from i (n - i)) ≡ any f (days_from (i + 1) (n - (i + 1)))
+any_passed f i n h e = any_more f i n h ∙ ap (λ t. or t (any f (days_from (i + 1) (n - (i + 1))))) e
+
+pub any_found : (f : ℕ → Bool) (i n : ℕ) → i < n → f i ≡ true → any f (days_from i (n - i)) ≡ true
+any_found f i n h e = any_more f i n h ∙ ap (λ t. or t (any f (days_from (i + 1) (n - (i + 1))))) e
+
 pub any_end : (f : ℕ → Bool) (i n : ℕ) → n ≤ i → any f (days_from i (n - i)) ≡ false
 unfolding days_from
 any_end f i n h = let e : n - i ≡ 0 = omega arith in rw e

@@ -179,6 +179,10 @@ unfolding found
 found_none [] e = refl
 found_none (b ∷ t) e = absurd (let no : ◌≡◌ {A = ℕ} 0 1 = cc in omega arith)
 
+pub found_some : (t : List ℕ) → 1 ≤ length t → all_bytes t ≡ true → found t ≡ found_as (get_or t 0 0) t
+unfolding found
+found_some t h b = rw (lt-ltb 0 (length t) (omega arith), b)
+
 pub found_first : (t : List ℕ) (b : ℕ) → Some b ≡ slice_get t 0 → all_bytes t ≡ true → found t ≡ found_as b t
 unfolding found
 found_first [] b e h = absurd (let no : ◌≡◌ {A = ℕ} 0 1 = cc in omega arith)

@@ -21,33 +21,53 @@ unfolding number_at
 number_of_chunk items n i m t e h q =
     q ∙ ap (λ c. from_eight 0 (take 8 c)) (ap (λ cs. get_or cs i []) e ∙ chunk_at i n t h) ∙ ap (from_eight 0) (take-take 8 8 (drop (8 * i) t) (omega arith))
 
--- rising numbers
-pub climbs_more : (c i lo hi n : ℕ) (t : List ℕ) → i < c → n ≡ number_at t (8 * i) → lo ≤ n → n ≤ hi → climbs (c - (i + 1)) (n + 1) hi t (8 * (i + 1)) ≡ climbs (c - i) lo hi t (8 * i)
+-- rising numbers, one more at a time
+pub climbs_more : (c i lo hi : ℕ) (t : List ℕ) (s : ℕ) → i < c → lo ≤ number_at t (s + 8 * i) → number_at t (s + 8 * i) ≤ hi →
+    climbs (c - (i + 1)) (number_at t (s + 8 * i) + 1) hi t (s + 8 * (i + 1)) ≡ climbs (c - i) lo hi t (s + 8 * i)
 unfolding climbs
-climbs_more c i lo hi n t h q a b =
+climbs_more c i lo hi t s h a b =
     let e : c - i ≡ suc (c - (i + 1)) = omega arith in
-    let p : 8 * (i + 1) ≡ 8 * i + 8 = omega arith in
-    rw (e, p, ← q, le-leb _ _ a, le-leb _ _ b)
+    let p : s + 8 * (i + 1) ≡ s + 8 * i + 8 = omega arith in
+    rw (e, p, le-leb _ _ a, le-leb _ _ b)
 
-pub climbs_low : (c i lo hi n : ℕ) (t : List ℕ) → i < c → n ≡ number_at t (8 * i) → n < lo → climbs (c - i) lo hi t (8 * i) ≡ false
+pub climbs_low : (c i lo hi : ℕ) (t : List ℕ) (s : ℕ) → i < c → number_at t (s + 8 * i) < lo → climbs (c - i) lo hi t (s + 8 * i) ≡ false
 unfolding climbs
-climbs_low c i lo hi n t h q a = let e : c - i ≡ suc (c - (i + 1)) = omega arith in rw (e, ← q, lt-leb _ _ a)
+climbs_low c i lo hi t s h a = let e : c - i ≡ suc (c - (i + 1)) = omega arith in rw (e, lt-leb _ _ a)
 
-pub climbs_high : (c i lo hi n : ℕ) (t : List ℕ) → i < c → n ≡ number_at t (8 * i) → lo ≤ n → hi < n → climbs (c - i) lo hi t (8 * i) ≡ false
+pub climbs_high : (c i lo hi : ℕ) (t : List ℕ) (s : ℕ) → i < c → lo ≤ number_at t (s + 8 * i) → hi < number_at t (s + 8 * i) → climbs (c - i) lo hi t (s + 8 * i) ≡ false
 unfolding climbs
-climbs_high c i lo hi n t h q b a = let e : c - i ≡ suc (c - (i + 1)) = omega arith in rw (e, ← q, le-leb _ _ b, lt-leb _ _ a)
+climbs_high c i lo hi t s h b a = let e : c - i ≡ suc (c - (i + 1)) = omega arith in rw (e, le-leb _ _ b, lt-leb _ _ a)
+
+-- and from the front of a text, by the number that is read there
+pub front_more : (c i lo hi n : ℕ) (t : List ℕ) → i < c → n ≡ number_at t (8 * i) → lo ≤ n → n ≤ hi → climbs (c - (i + 1)) (n + 1) hi t (8 * (i + 1)) ≡ climbs (c - i) lo hi t (8 * i)
+front_more c i lo hi n t h q a b =
+    let z : 0 + 8 * i ≡ 8 * i = omega arith in
+    let y : 0 + 8 * (i + 1) ≡ 8 * (i + 1) = omega arith in
+    rw q (rw (z, y) at (climbs_more c i lo hi t 0 h (rw (z, ← q) a) (rw (z, ← q) b)))
+
+pub front_low : (c i lo hi n : ℕ) (t : List ℕ) → i < c → n ≡ number_at t (8 * i) → n < lo → climbs (c - i) lo hi t (8 * i) ≡ false
+front_low c i lo hi n t h q a = let z : 0 + 8 * i ≡ 8 * i = omega arith in rw z at (climbs_low c i lo hi t 0 h (rw (z, ← q) a))
+
+pub front_high : (c i lo hi n : ℕ) (t : List ℕ) → i < c → n ≡ number_at t (8 * i) → lo ≤ n → hi < n → climbs (c - i) lo hi t (8 * i) ≡ false
+front_high c i lo hi n t h q b a = let z : 0 + 8 * i ≡ 8 * i = omega arith in rw z at (climbs_high c i lo hi t 0 h (rw (z, ← q) b) (rw (z, ← q) a))
 
 pub climbs_all : (c i lo hi : ℕ) (t : List ℕ) (k : ℕ) → c ≤ i → climbs (c - i) lo hi t k ≡ true
 unfolding climbs
 climbs_all c i lo hi t k h = let e : c - i ≡ 0 = omega arith in rw e
 
--- weekdays named by numbers
-pub marks_more : (c i n : ℕ) (t : List ℕ) (on : Weekdays) → i < c → n ≡ number_at t (8 * i) → marks (c - (i + 1)) t (8 * (i + 1)) (with_day n on) ≡ marks (c - i) t (8 * i) on
+-- weekdays named by numbers, one more at a time
+pub marks_more : (c i : ℕ) (t : List ℕ) (s : ℕ) (on : Weekdays) → i < c → marks (c - (i + 1)) t (s + 8 * (i + 1)) (with_day (number_at t (s + 8 * i)) on) ≡ marks (c - i) t (s + 8 * i) on
 unfolding marks
-marks_more c i n t on h q =
+marks_more c i t s on h =
     let e : c - i ≡ suc (c - (i + 1)) = omega arith in
-    let p : 8 * (i + 1) ≡ 8 * i + 8 = omega arith in
-    rw (e, p, q)
+    let p : s + 8 * (i + 1) ≡ s + 8 * i + 8 = omega arith in
+    rw (e, p)
+
+pub front_marks : (c i n : ℕ) (t : List ℕ) (on : Weekdays) → i < c → n ≡ number_at t (8 * i) → marks (c - (i + 1)) t (8 * (i + 1)) (with_day n on) ≡ marks (c - i) t (8 * i) on
+front_marks c i n t on h q =
+    let z : 0 + 8 * i ≡ 8 * i = omega arith in
+    let y : 0 + 8 * (i + 1) ≡ 8 * (i + 1) = omega arith in
+    rw q (rw (z, y) at (marks_more c i t 0 on h))
 
 pub marks_all : (c i : ℕ) (t : List ℕ) (k : ℕ) (on : Weekdays) → c ≤ i → marks (c - i) t k on ≡ on
 unfolding marks

@@ -1,7 +1,7 @@
 -- Numbers written into a row and read from it, each in so many bytes.
 use Rattle.std.proofs.Common.{◌≡◌, ℕ, zero, suc, ◌+◌, ◌-◌, ◌*◌, ◌/◌, ◌%◌, ◌<◌, ◌≤◌, true, leb, List, [], ◌∷◌, ◌++◌, length, get_or, take, drop, set, replicate, sym, refl, ap, ◌∙◌, arith}
 use Rattle.std.proofs.lemmas.Bool.{leb-true, and_parts}
-use Rattle.std.proofs.lemmas.List.{append-nil, at_drop_more, drop_all, drop-drop, drop-replicate, length-append, take_all, take-replicate}
+use Rattle.std.proofs.lemmas.List.{append-nil, at_drop_more, drop_all, drop-drop, drop-replicate, length-append, length-take, take_all, take-replicate}
 use Rattle.pages.specs.Lists.{added_up, every, flat}
 use Rattle.pages.specs.Bytes.{eight, from_eight, in_bytes, over, placed}
 use Rattle.pages.specs.Device.{zeros}
@@ -76,6 +76,12 @@ fours_append (suc m) (a ∷ as₁) r s = in_bytes_append 4 a (fours m as₁ r) s
 pub length_threes : (ds : List ℕ) → length (threes ds) ≡ 3 * length ds
 length_threes [] = refl
 length_threes (d ∷ ds) = let i = length_threes ds in let q = length_in_bytes 3 d [] in length-append (in_bytes 3 d []) (flat (λ d. in_bytes 3 d []) ds) ∙ omega arith
+
+pub threes_more : (ds : List ℕ) (i : ℕ) → i < length ds → threes (drop i ds) ≡ in_bytes 3 (get_or ds i 0) (threes (drop (i + 1) ds))
+threes_more ds i h = at_drop_more threes ds i 0 h ∙ in_bytes_append 3 (get_or ds i 0) [] (threes (drop (i + 1) ds))
+
+pub threes_all : (ds row : List ℕ) (k i : ℕ) → length ds ≤ i → placed k (threes (drop i ds)) row ≡ row
+threes_all ds row k i h = rw (drop_all i ds h) (sym (placed_none k row))
 
 -- numbers one behind the other, each in so many bytes
 pub all_more : (w : ℕ) (ns : List ℕ) (i : ℕ) → i < length ns → flat (λ n. in_bytes w n []) (drop i ns) ≡ in_bytes w (get_or ns i 0) (flat (λ n. in_bytes w n []) (drop (i + 1) ns))
@@ -154,6 +160,12 @@ at_byte zero [] = refl
 at_byte (suc k) [] = refl
 at_byte zero (b ∷ p) = omega arith
 at_byte (suc k) (b ∷ p) = at_byte k p
+
+pub at_few : (k w : ℕ) (p : List ℕ) → w ≤ 8 → from_eight 0 (take 8 (take (k + w - k) (drop k p))) ≡ at k w p
+unfolding at number
+at_few k w p h =
+    let e : k + w - k ≡ w = omega arith in
+    rw e (ap (from_eight 0) (take_all 8 (take w (drop k p)) (simp length-take (omega arith))))
 
 -- three bytes to each number read
 pub length_read_threes : (c : ℕ) (bs : List ℕ) → length (read_threes c bs) ≡ c

@@ -12,6 +12,14 @@ use Rattle.recurrence.specs.declared.event.Event.{Event}
 use Rattle.records.specs.Command.{bit, numbers, repeat_spelled, event_spelled}
 use Rattle.records.specs.Written.{timing_spelled}
 
+flat_suc : (ns : List ℕ) (i : ℕ) → i < length ns → flat eight (take (suc i) ns) ≡ flat eight (take i ns) ++ eight (get_or ns i 0)
+flat_suc [] i h = absurd (omega arith)
+flat_suc (n ∷ ns) zero h = append-nil (eight n)
+flat_suc (n ∷ ns) (suc i) h = ap (λ u. eight n ++ u) (flat_suc ns i (omega arith)) ∙ sym (append_assoc (eight n) (flat eight (take i ns)) (eight (get_or ns i 0)))
+
+pub flat_more : (ns : List ℕ) (i : ℕ) → i < length ns → flat eight (take (i + 1) ns) ≡ flat eight (take i ns) ++ eight (get_or ns i 0)
+flat_more ns i h = rw (add-one i) (flat_suc ns i h)
+
 pub length_flat : (ns : List ℕ) → length (flat eight ns) ≡ 8 * length ns
 length_flat [] = refl
 length_flat (n ∷ ns) = let i = length_flat ns in let q = length_eight n in length-append (eight n) (flat eight ns) ∙ omega arith

@@ -1,6 +1,6 @@
 use Rattle.std.proofs.Common.{◌≡◌, ◌+◌, ◌-◌, ◌*◌, ◌/◌, length, sym, ap, ◌∙◌, arith}
 use Rattle.records.specs.Reader.{marks}
-use Rattle.records.proofs.Rows.{number_of_chunk, marks_more, marks_all}
+use Rattle.records.proofs.Rows.{number_of_chunk, front_marks, marks_all}
 use Rattle.records.proofs.field.marked.Goals as goal
 
 pub loop-eight-init : goal.loop-eight-init
@@ -16,7 +16,7 @@ loop-eight-preserved c =
     let i = c.loop-eight.eight-index in
     let l = c.as_chunks.ensures.front_len in
     let n = number_of_chunk _ m i _ t c.as_chunks.ensures.front (omega arith) c.number.ensures in
-    ap (marks (m - (i + 1)) t (8 * (i + 1))) c.with-on.ensures ∙ marks_more m i _ t c.loop-eight.on (omega arith) n ∙ c.loop-eight.invariant
+    ap (marks (m - (i + 1)) t (8 * (i + 1))) c.with-on.ensures ∙ front_marks m i _ t c.loop-eight.on (omega arith) n ∙ c.loop-eight.invariant
 
 pub returns : goal.returns
 returns c =

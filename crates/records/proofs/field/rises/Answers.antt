@@ -1,5 +1,5 @@
 use Rattle.std.proofs.Common.{◌/◌, length, sym, ◌∙◌, arith}
-use Rattle.records.proofs.Rows.{number_of_chunk, climbs_more, climbs_all, climbs_low, climbs_high}
+use Rattle.records.proofs.Rows.{number_of_chunk, front_more, climbs_all, front_low, front_high}
 use Rattle.records.proofs.field.rises.Goals as goal
 use Rattle.records.proofs.field.rises.Goals.{then-n-least-via-then-n-least, then-n-least-via-else-n-least+then-n-hi}
 
@@ -11,8 +11,8 @@ returns-then-n-least c =
     let l = c.as_chunks.ensures.front_len in
     let n = number_of_chunk _ m i _ t c.as_chunks.ensures.front (omega arith) c.number-n.ensures in
     elim c.then-n-least.branch [
-      | then-n-least-via-then-n-least w ↦ sym (climbs_low m i _ c.args.hi _ t (omega arith) n w.if-n-least.true) ∙ c.loop-eight.invariant
-      | then-n-least-via-else-n-least+then-n-hi w ↦ sym (climbs_high m i _ c.args.hi _ t (omega arith) n w.if-n-least.false w.if-n-hi.true) ∙ c.loop-eight.invariant
+      | then-n-least-via-then-n-least w ↦ sym (front_low m i _ c.args.hi _ t (omega arith) n w.if-n-least.true) ∙ c.loop-eight.invariant
+      | then-n-least-via-else-n-least+then-n-hi w ↦ sym (front_high m i _ c.args.hi _ t (omega arith) n w.if-n-least.false w.if-n-hi.true) ∙ c.loop-eight.invariant
     ]
 
 pub loop-eight-preserved : goal.loop-eight-preserved
@@ -22,7 +22,7 @@ loop-eight-preserved c =
     let i = c.loop-eight.eight-index in
     let l = c.as_chunks.ensures.front_len in
     let n = number_of_chunk _ m i _ t c.as_chunks.ensures.front (omega arith) c.number-n.ensures in
-    climbs_more m i _ c.args.hi _ t (omega arith) n c.if-n-least.false c.if-n-hi.false ∙ c.loop-eight.invariant
+    front_more m i _ c.args.hi _ t (omega arith) n c.if-n-least.false c.if-n-hi.false ∙ c.loop-eight.invariant
 
 pub returns : goal.returns
 returns c =
