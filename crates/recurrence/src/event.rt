@@ -1,5 +1,5 @@
 // An event by value, without its title and the days left out, which are lists and stay where they are lent.
-ghost use Rattle.std.specs.Prelude.{◌≡◌, false, slice_index_or};
+ghost use Rattle.std.specs.Prelude.{◌≡◌, ◌++◌, false, Some, slice_index_or, codes, decimal};
 ghost use Rattle.recurrence.specs.Value.{kind_number, KindOf};
 ghost use Rattle.recurrence.specs.Week.{with_day, no_days, flags};
 
@@ -62,6 +62,8 @@ impl TryFrom<u8> for Kind {
 }
 
 impl fmt::Display for UnknownKind {
+    ghost output = { λ e. Some (codes "no kind of event has number " ++ decimal e.0) };
+
     fn fmt<W: fmt::Write>(&self, f: &mut fmt::Formatter<W>) -> fmt::Result {
         write!(f, "no kind of event has number {}", self.0)
     }
