@@ -9,7 +9,7 @@ use Rattle.pages.specs.Device.{zeros, a_page}
 use Rattle.pages.specs.Fields.{at, fd, pad}
 use Rattle.pages.specs.Run.{Event, on, said, page, next, Step, all_small, Steady}
 use Rattle.pages.specs.Store.{heads_of, area}
-use Rattle.pages.specs.Deeds.{side_number}
+use Rattle.pages.specs.Deeds.{side_at, side_number}
 use Rattle.pages.specs.Waking.{fresh_head, chosen, is_second, source_of, brought, hears, wiped_from, copied_from, replayed_from, homing, home_of, page_at, next_at, page_of, next_of, steady as in_range}
 use Rattle.pages.specs.Journal.{opened, opens, slots_from, homes_from, homing as commit_homing, next_at as commit_next_at, next_of as commit_next_of, steady as commit_in_range}
 use Rattle.pages.specs.declared.deed.Deed.{Deed}
@@ -37,7 +37,7 @@ use Rattle.records.specs.Does.{new_person, new_root, put_block}
 use Rattle.records.proofs.Persons.{block_placed, length_person}
 use Rattle.engine_next.specs.Memory.{start_memory, loaded, stored, name_in, with_name, root_in, with_root, head_in, with_head, with_batch}
 use Rattle.engine_next.specs.Phases.{stage_number, part_number, phase_of}
-use Rattle.engine_next.specs.Own.{own, fault, is_side, with_recovery, with_commit, starting, joining, scanning, counted, join_head, with_new_person, with_new_root, with_join_head, on_with, said_as, said_with, join_said, woken, woken_if, header_came, waking_page, waking_next, committed, committed_if, committing_page, committing_next, deciding, looking_from, root_came, names_came, people_came, joining_page, recovery_of, commit_of, page_in, next_in, page_with, next_with, step_of, guarded}
+use Rattle.engine_next.specs.Own.{own, fault, with_recovery, with_commit, starting, joining, scanning, counted, join_head, with_new_person, with_new_root, with_join_head, on_with, said_as, said_with, join_said, woken, woken_if, header_came, waking_page, waking_next, committed, committed_if, committing_page, committing_next, deciding, looking_from, root_came, names_came, people_came, joining_page, recovery_of, commit_of, page_in, next_in, page_with, next_with, step_of, guarded}
 use Rattle.engine_next.specs.declared.registers.Registers.{Registers}
 use Rattle.engine_next.specs.declared.phase.Join.{Join}
 use Rattle.engine_next.specs.declared.phase.Join.TheVariants.{Root, Names, People}
@@ -144,51 +144,55 @@ unfolding fresh_head
 fresh_kept m = record { long = ap suc (length_zeros 31); small = λ s. small_more 1 (zeros 31) (lit< tt) (bytes_small (zeros 31) (bytes_zeros 31)) }
 
 -- POWER COMES UP
-recovery_small : (v : Recovery) (r : Registers) → v.at ≤ 1048577 → Small r → Small (with_recovery v r)
-recovery_small v r h s = let n = stage_small v.stage in let d = side_small v.side in search rules
+record SmallRecovery (v : Recovery) : Type 0 where
+  few : v.at ≤ 1048577
+  one : v.side ≤ 1
+
+recovery_small : (v : Recovery) (r : Registers) → SmallRecovery v → Small r → Small (with_recovery v r)
+recovery_small v r h s = let n = stage_small v.stage in search rules
 
 -- of a step, where there is one
-unfoldable SmallRecovery : Option (StoreStep Recovery) → Type 0
-SmallRecovery None = Unit
-SmallRecovery (Some v) = v.state.at ≤ 1048577
+unfoldable SmallStep : Option (StoreStep Recovery) → Type 0
+SmallStep None = Unit
+SmallStep (Some v) = SmallRecovery v.state
 
-recovery_either : (b : Bool) (x y : StoreStep Recovery) → x.state.at ≤ 1048577 → y.state.at ≤ 1048577 → (cond b x y).state.at ≤ 1048577
+recovery_either : (b : Bool) (x y : StoreStep Recovery) → SmallRecovery x.state → SmallRecovery y.state → SmallRecovery (cond b x y).state
 recovery_either true x y h k = h
 recovery_either false x y h k = k
 
-recovery_in_range : (b : Bool) (o : Option (StoreStep Recovery)) → (b ≡ true → SmallRecovery o) → SmallRecovery (cond b o None)
-unfolding SmallRecovery
+recovery_in_range : (b : Bool) (o : Option (StoreStep Recovery)) → (b ≡ true → SmallStep o) → SmallStep (cond b o None)
+unfolding SmallStep
 recovery_in_range true o h = h refl
 recovery_in_range false o h = tt
 
-wiped_small : (k : ℕ) (v : Recovery) → k ≤ 1048577 → (wiped_from k v).state.at ≤ 1048577
-wiped_small k v h = grind (arith, nat_tests)
+wiped_small : (k : ℕ) (v : Recovery) → k ≤ 1048577 → SmallRecovery (wiped_from k v).state
+wiped_small k v h = record { few = grind (arith, nat_tests); one = grind (arith, nat_tests) }
 
-copied_small : (d : Side) (k : ℕ) (v : Recovery) → k ≤ 1048577 → (copied_from d k v).state.at ≤ 1048577
-copied_small d k v h = grind (arith, nat_tests)
+copied_small : (d : Side) (k : ℕ) (v : Recovery) → k ≤ 1048577 → SmallRecovery (copied_from d k v).state
+copied_small d k v h = let l = side_small d in record { few = grind (arith, nat_tests); one = grind (arith, nat_tests) }
 
-replayed_small : (ws : List ℕ) (i : ℕ) (v : Recovery) → i ≤ 1048577 → (replayed_from ws i v).state.at ≤ 1048577
-replayed_small ws i v h = grind (arith, nat_tests)
+replayed_small : (ws : List ℕ) (i : ℕ) (v : Recovery) → i ≤ 1048577 → SmallRecovery (replayed_from ws i v).state
+replayed_small ws i v h = record { few = grind (arith, nat_tests); one = grind (arith, nat_tests) }
 
-brought_small : (s : Source) (v : Recovery) → (brought s v).state.at ≤ 1048577
-brought_small Both v = omega arith
+brought_small : (s : Source) (v : Recovery) → SmallRecovery (brought s v).state
+brought_small Both v = record { few = omega arith; one = omega arith }
 brought_small (Only d) v = copied_small d 1 v (omega arith)
 brought_small Neither v = wiped_small 1 v (omega arith)
 
-hears_small : (s : Stage) (ws bs : List ℕ) (v : Recovery) → (hears s ws bs v).state.at ≤ 1048577
-hears_small s ws bs v = recovery_either (is_second s) _ _ (brought_small (source_of ws (heads_of bs)) v) (omega arith)
+hears_small : (s : Stage) (ws bs : List ℕ) (v : Recovery) → SmallRecovery (hears s ws bs v).state
+hears_small s ws bs v = recovery_either (is_second s) _ _ (brought_small (source_of ws (heads_of bs)) v) (record { few = omega arith; one = omega arith })
 
-homing_small : (o : Option ℕ) (d : Side) (v : Recovery) → v.at ≤ 1048576 → SmallRecovery (homing o d v)
-unfolding SmallRecovery
+homing_small : (o : Option ℕ) (d : Side) (v : Recovery) → v.at ≤ 1048576 → SmallStep (homing o d v)
+unfolding SmallStep
 homing_small None d v h = tt
-homing_small (Some k) d v h = omega arith
+homing_small (Some k) d v h = record { few = omega arith; one = omega arith }
 
 ranged : (v : Recovery) (ws : List ℕ) → in_range v ws ≡ true → v.at ≤ 1048576
-ranged v ws h = leb-true _ _ (and_parts _ _ (and_parts _ _ h).0).1
+ranged v ws h = leb-true _ _ (and_parts _ _ (and_parts _ _ (and_parts _ _ h).0).1).0
 
-page_at_small : (s : Stage) (ws : List ℕ) (v : Recovery) → v.at ≤ 1048576 → SmallRecovery (page_at s ws v)
-unfolding SmallRecovery
-page_at_small Asking ws v h = omega arith
+page_at_small : (s : Stage) (ws : List ℕ) (v : Recovery) → v.at ≤ 1048576 → SmallStep (page_at s ws v)
+unfolding SmallStep
+page_at_small Asking ws v h = record { few = omega arith; one = side_small (side_at v.side) }
 page_at_small (Slot d) ws v h = homing_small (home_of ws v.at) d v h
 page_at_small (Header d) ws v h = tt
 page_at_small Mending ws v h = tt
@@ -198,12 +202,12 @@ page_at_small Copying ws v h = tt
 page_at_small Heading ws v h = tt
 page_at_small (Home d) ws v h = tt
 
-next_at_small : (s : Stage) (ws : List ℕ) (v : Recovery) → v.at ≤ 1048576 → SmallRecovery (next_at s ws v)
-unfolding SmallRecovery
+next_at_small : (s : Stage) (ws : List ℕ) (v : Recovery) → v.at ≤ 1048576 → SmallStep (next_at s ws v)
+unfolding SmallStep
 next_at_small Wiping ws v h = wiped_small (v.at + 1) v (omega arith)
 next_at_small Marking ws v h = copied_small First 1 v (omega arith)
-next_at_small Copying ws v h = copied_small v.side (v.at + 1) v (omega arith)
-next_at_small (Home First) ws v h = omega arith
+next_at_small Copying ws v h = copied_small (side_at v.side) (v.at + 1) v (omega arith)
+next_at_small (Home First) ws v h = record { few = omega arith; one = omega arith }
 next_at_small (Home Second) ws v h = replayed_small ws (v.at + 1) v (omega arith)
 next_at_small Mending ws v h = replayed_small ws 0 v (omega arith)
 next_at_small Heading ws v h = replayed_small ws 0 v (omega arith)
@@ -211,10 +215,10 @@ next_at_small (Header d) ws v h = tt
 next_at_small Asking ws v h = tt
 next_at_small (Slot d) ws v h = tt
 
-page_of_small : (v : Recovery) (ws : List ℕ) → SmallRecovery (page_of v ws)
+page_of_small : (v : Recovery) (ws : List ℕ) → SmallStep (page_of v ws)
 page_of_small v ws = recovery_in_range (in_range v ws) _ (λ e. page_at_small v.stage ws v (ranged v ws e))
 
-next_of_small : (v : Recovery) (ws : List ℕ) → SmallRecovery (next_of v ws)
+next_of_small : (v : Recovery) (ws : List ℕ) → SmallStep (next_of v ws)
 next_of_small v ws = recovery_in_range (in_range v ws) _ (λ e. next_at_small v.stage ws v (ranged v ws e))
 
 chosen_kept : {m : List ℕ} (b c : Bool) (ws vs : List ℕ) → Kept m 32 ws → Kept m 32 vs → Kept m 32 (cond b ws (cond c vs fresh_head))
@@ -325,11 +329,11 @@ module _ (m₀ : List ℕ) where
   abbrev Fit : Registers → Type 0
   Fit r = all_small m₀ ≡ true → Small r
 
-  kept_woken : (v : StoreStep Recovery) (r : Registers) (bs : List ℕ) {m : List ℕ} → v.state.at ≤ 1048577 → Fit r → Keeps m₀ m → Keeps m₀ (woken v r bs m).memory
+  kept_woken : (v : StoreStep Recovery) (r : Registers) (bs : List ℕ) {m : List ℕ} → SmallRecovery v.state → Fit r → Keeps m₀ m → Keeps m₀ (woken v r bs m).memory
   kept_woken v r bs l s h = kept_stored _ h (λ a. recovery_small v.state r l (s a))
 
-  kept_woken_if : (o : Option (StoreStep Recovery)) (r : Registers) (bs : List ℕ) {m : List ℕ} → SmallRecovery o → Fit r → Keeps m₀ m → Keeps m₀ (woken_if o r bs m).memory
-  unfolding SmallRecovery
+  kept_woken_if : (o : Option (StoreStep Recovery)) (r : Registers) (bs : List ℕ) {m : List ℕ} → SmallStep o → Fit r → Keeps m₀ m → Keeps m₀ (woken_if o r bs m).memory
+  unfolding SmallStep
   kept_woken_if None r bs l s h = h
   kept_woken_if (Some v) r bs l s h = kept_woken v r bs l s h
 
@@ -338,14 +342,11 @@ module _ (m₀ : List ℕ) where
       kept_woken (hears g (head_in m) bs (recovery_of g r)) r bs (hears_small g (head_in m) bs (recovery_of g r)) s
       (kept_head (heard_kept (is_second g) (head_in m) (heads_of bs) (head_kept m h) (heads_kept m₀ bs p)) h)
 
-  kept_came : (g : Stage) (r : Registers) (bs m : List ℕ) → Fit r → Keeps m₀ m → Keeps m₀ (cond (is_side r.side) (woken_if (page_of (recovery_of g r) (head_in m)) r bs m) (fault m)).memory
-  kept_came g r bs m s h = kept_either _ _ _ (λ e. kept_woken_if (page_of (recovery_of g r) (head_in m)) r bs (page_of_small (recovery_of g r) (head_in m)) s h) (λ e. h)
-
   kept_waking_page : (g : Stage) (r : Registers) (bs m : List ℕ) → a_page bs ≡ true → Fit r → Keeps m₀ m → Keeps m₀ (waking_page g r bs m).memory
-  kept_waking_page g r bs m p s h = kept_either _ _ _ (λ e. kept_header g r bs m p s h) (λ e. kept_came g r bs m s h)
+  kept_waking_page g r bs m p s h = kept_either _ _ _ (λ e. kept_header g r bs m p s h) (λ e. kept_woken_if (page_of (recovery_of g r) (head_in m)) r bs (page_of_small (recovery_of g r) (head_in m)) s h)
 
   kept_waking_next : (g : Stage) (r : Registers) (m : List ℕ) → Fit r → Keeps m₀ m → Keeps m₀ (waking_next g r m).memory
-  kept_waking_next g r m s h = kept_either _ _ _ (λ e. kept_woken_if (next_of (recovery_of g r) (head_in m)) r [] (next_of_small (recovery_of g r) (head_in m)) s h) (λ e. h)
+  kept_waking_next g r m s h = kept_woken_if (next_of (recovery_of g r) (head_in m)) r [] (next_of_small (recovery_of g r) (head_in m)) s h
 
   kept_committed : (d : Deed) (c : Commit) (r : Registers) {m : List ℕ} → c.at ≤ 29 → Fit r → Keeps m₀ m → Keeps m₀ (committed d c r m).memory
   kept_committed Ready c r l s h = kept_stored _ h (λ a. scanning_small 23 0 r (lit< tt) (omega arith) (s a))

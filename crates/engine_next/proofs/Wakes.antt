@@ -1,12 +1,12 @@
 -- What the machine does when power comes up is the recovery that the store asks for.
-use Rattle.std.proofs.Common.{◌≡◌, ℕ, zero, suc, ◌+◌, ◌<◌, ◌≤◌, Bool, true, false, not, eqb, List, [], length, get_or, Some, sym, refl, ap, ◌∙◌, add-one, arith, lit<, lit≤}
+use Rattle.std.proofs.Common.{◌≡◌, ℕ, zero, suc, ◌+◌, ◌<◌, ◌≤◌, Bool, true, false, not, eqb, leb, List, [], length, get_or, Some, sym, refl, ap, ◌∙◌, add-one, arith, lit<, lit≤}
 use Rattle.std.proofs.lemmas.List.{ext_get_or}
 use Rattle.std.proofs.lemmas.Bool.{and_from, cond_both, eq-eqb, le-leb, le-ltb, lt-ltb}
 use Rattle.pages.specs.Lists.{bit}
 use Rattle.pages.specs.Device.{Page, zeros, a_page}
 use Rattle.pages.specs.Run.{on, page, next, Step, read, write, done}
 use Rattle.pages.specs.Store.{mark, area, count, address, header_page, heads_of}
-use Rattle.pages.specs.Deeds.{other, side_number}
+use Rattle.pages.specs.Deeds.{other, side_at, side_number}
 use Rattle.pages.specs.Waking.{fresh_head, source_of, chosen, going, wiped_from, copied_from, replayed_from, home_of, homing, brought, awaits_header, steady, page_at, next_at}
 use Rattle.pages.specs.declared.deed.Content.TheVariants.{Told}
 use Rattle.pages.specs.declared.deed.Deed.TheVariants.{Write}
@@ -21,7 +21,7 @@ use Rattle.pages.proofs.Recovers.{Recovery, Sound, does}
 use Rattle.engine_next.specs.Memory.{start_memory, loaded, stored, head_in, with_head}
 use Rattle.engine_next.specs.Phases.{stage_number}
 use Rattle.engine.specs.Own.{a_house}
-use Rattle.engine_next.specs.Own.{act_for, is_side, own, side_at, woken}
+use Rattle.engine_next.specs.Own.{act_for, own, woken}
 use Rattle.engine_next.specs.declared.registers.Registers.{Registers}
 use Rattle.engine_next.proofs.Areas.{Ready, head_again, head_back, head_past, head_stored, loaded_stored, long_head, long_stored, stored_stored}
 use Rattle.engine_next.proofs.Start.{start_length}
@@ -38,14 +38,14 @@ unfoldable pub waking : ℕ → ℕ → ℕ → ℕ → List ℕ → List ℕ
 waking n ph k d ws = stored (held n ph k d) (holding ws)
 
 abbrev standing : Stage → ℕ → ℕ → Side → Stand
-standing s n k d = record { stage = s; pages = n; at = k; side = d }
+standing s n k d = record { stage = s; pages = n; at = k; side = side_number d }
 
 holding_long : (ws : List ℕ) → length ws ≡ 32 → length (holding ws) ≡ 262144
 holding_long ws h = long_head ws start_memory h start_length
 
 -- a move, done from there
 abbrev moved : ℕ → StoreStep Stand → Page → List ℕ → Step
-moved n v x ws = does (waking n (stage_number v.state.stage) v.state.at (side_number v.state.side) ws) (act_for v.deed x (holding ws))
+moved n v x ws = does (waking n (stage_number v.state.stage) v.state.at v.state.side ws) (act_for v.deed x (holding ws))
 
 woken_so : (n ph k d ph₁ k₁ d₁ : ℕ) (v : StoreStep Stand) (x : Page) (ws : List ℕ) → woken v (held n ph k d) x (stored (held n ph₁ k₁ d₁) (holding ws)) ≡ moved n v x ws
 unfolding waking
@@ -119,7 +119,7 @@ side_back : (d : Side) → side_at (side_number d) ≡ d
 side_back First = refl
 side_back Second = refl
 
-side_is : (d : Side) → is_side (side_number d) ≡ true
+side_is : (d : Side) → leb (side_number d) 1 ≡ true
 side_is First = refl
 side_is Second = refl
 
@@ -135,7 +135,7 @@ module _ (n : ℕ) (lo : 256 ≤ n) (hi : n ≤ 1048576) where
   head_held ph k d ws h = head_stored (held n ph k d) (holding ws) ∙ head_back ws start_memory h start_length
 
   is_steady : (s : Stage) (k : ℕ) (d : Side) (ws : List ℕ) → length ws ≡ 32 → k ≤ 1048576 → steady (standing s n k d) ws ≡ true
-  is_steady s k d ws h a = and_from _ _ (and_from _ _ (le-leb n 1048576 hi) (le-leb k 1048576 a)) (eq-eqb (length ws) 32 h)
+  is_steady s k d ws h a = and_from _ _ (and_from _ _ (le-leb n 1048576 hi) (and_from _ _ (le-leb k 1048576 a) (side_is d))) (eq-eqb (length ws) 32 h)
 
   -- BOTH HEADERS
   powers : own.step start_memory (on n) ≡ does (stored (held n 1 0 0) start_memory) (read 0 0)
@@ -166,7 +166,7 @@ module _ (n : ℕ) (lo : 256 ≤ n) (hi : n ≤ 1048576) where
   unfolding waking
   comes s k d ws x v w h a vx e =
       own_page (held n (stage_number s) k (side_number d)) (holding ws) x (holding_long ws h) house vx
-      ∙ rw (phase_stage s, w, side_is d, side_back d, head_held (stage_number s) k (side_number d) ws h, is_steady s k d ws h a, e)
+      ∙ rw (phase_stage s, w, head_held (stage_number s) k (side_number d) ws h, is_steady s k d ws h a, e)
       (woken_so n (stage_number s) k (side_number d) (stage_number s) k (side_number d) v x ws)
 
   goes_on : (s : Stage) (k : ℕ) (d : Side) (ws : List ℕ) (v : StoreStep Stand) → length ws ≡ 32 → k ≤ 1048576 → next_at s ws (standing s n k d) ≡ Some v →
@@ -174,7 +174,7 @@ module _ (n : ℕ) (lo : 256 ≤ n) (hi : n ≤ 1048576) where
   unfolding waking
   goes_on s k d ws v h a e =
       own_next (held n (stage_number s) k (side_number d)) (holding ws) (holding_long ws h) house
-      ∙ rw (phase_stage s, side_is d, side_back d, head_held (stage_number s) k (side_number d) ws h, is_steady s k d ws h a, e)
+      ∙ rw (phase_stage s, head_held (stage_number s) k (side_number d) ws h, is_steady s k d ws h a, e)
       (woken_so n (stage_number s) k (side_number d) (stage_number s) k (side_number d) v [] ws)
 
   abbrev wipes_from : ℕ → Step
@@ -238,8 +238,8 @@ module _ (n : ℕ) (lo : 256 ≤ n) (hi : n ≤ 1048576) where
         writing = λ d p k. waking n 7 k (side_number (told_side d)) (heads_of p);
         heading = λ d p. waking n 8 0 (side_number (told_side d)) (heads_of p);
         copies_ask = λ d p sp k l₁ l. rw (lt-ltb k n l) (ap (λ z. does (waking n 6 k (side_number (told_side d)) (heads_of p)) (read z k)) (told_number d));
-        copies_put = λ d p sp k x v l₁ l. rw (sym (other_number d)) (comes Asking k (told_side d) (heads_of p) x _ refl (length_heads p) (omega arith) v refl);
-        copies_on = λ d p sp k l₁ l. goes_on Copying k (told_side d) (heads_of p) _ (length_heads p) (omega arith) refl ∙ ap (copies_from d p) (add-one k);
+        copies_put = λ d p sp k x v l₁ l. rw (sym (other_number d)) (comes Asking k (told_side d) (heads_of p) x _ refl (length_heads p) (omega arith) v (ap (λ z. Some (going Copying k z (Write (other z) k Told) (standing Asking n k (told_side d)))) (side_back (told_side d))));
+        copies_on = λ d p sp k l₁ l. goes_on Copying k (told_side d) (heads_of p) _ (length_heads p) (omega arith) (ap (λ z. Some (copied_from z (k + 1) (standing Copying n k (told_side d)))) (side_back (told_side d))) ∙ ap (copies_from d p) (add-one k);
         copies_end = λ d p sp. rw (le-ltb n n (omega arith), other_number d) (wrote _ (bit (not d)) 0 (heads_of p) (length_heads p));
         copied = λ d p sp. goes_on Heading 0 (told_side d) (heads_of p) _ (length_heads p) (lit≤ tt) refl;
         getting_0 = λ p i. waking n 9 i 0 (heads_of p);

@@ -1,6 +1,6 @@
 -- THE HOUSE ITSELF, as a machine of 262,144 numbers: what it does for whatever its memory holds and whatever it is told.
 -- Assumes nothing: these are definitions.
-use Rattle.std.specs.Prelude.{◌≡◌, ℕ, ◌+◌, ◌-◌, ◌*◌, ◌/◌, ◌%◌, Bool, true, false, cond, ◌&&◌, List, [], ◌∷◌, length, Some, None, Option, Result, ◌==◌, nat_le, nat_lt}
+use Rattle.std.specs.Prelude.{ℕ, ◌+◌, ◌-◌, ◌*◌, ◌/◌, ◌%◌, cond, ◌&&◌, List, [], ◌∷◌, length, Some, None, Option, ◌==◌, nat_le, nat_lt}
 use Rattle.pages.specs.Lists.{pick}
 use Rattle.pages.specs.Bytes.{eight, placed}
 use Rattle.pages.specs.Device.{zeros, a_page}
@@ -10,8 +10,6 @@ use Rattle.pages.specs.Store.{header_page}
 use Rattle.pages.specs.Deeds.{side_number}
 use Rattle.pages.specs.Waking.{hears, heard_head, awaits_header, page_of, next_of}
 use Rattle.pages.specs.Journal.{opens, opened, next_of as commit_next_of}
-use Rattle.pages.specs.declared.side.Side.{Side}
-use Rattle.pages.specs.declared.side.Side.TheVariants.{First, Second}
 use Rattle.pages.specs.declared.deed.Content.{Content}
 use Rattle.pages.specs.declared.deed.Content.TheVariants.{Blank, Told, Header, Batch}
 use Rattle.pages.specs.declared.deed.Deed.{Deed}
@@ -55,18 +53,11 @@ act_for (Write s k c) bs m = write (side_number s) k (content_of c bs m)
 act_for Ready bs m = done
 
 -- POWER COMES UP
--- the side that a register tells of: only 0 and 1 are sides, and where a header is heard the register does not matter
-abbrev pub is_side : ℕ → Bool
-is_side n = nat_le n 1
-
-abbrev pub side_at : ℕ → Side
-side_at n = cond (n == 1) Second First
-
 abbrev pub recovery_of : Stage → Registers → Recovery
-recovery_of s r = record { stage = s; pages = r.pages; at = r.at; side = side_at r.side }
+recovery_of s r = record { stage = s; pages = r.pages; at = r.at; side = r.side }
 
 abbrev pub with_recovery : Recovery → Registers → Registers
-with_recovery v r = record { phase = stage_number v.stage; pages = r.pages; at = v.at; side = side_number v.side; long = r.long; people = r.people; weight = r.weight }
+with_recovery v r = record { phase = stage_number v.stage; pages = r.pages; at = v.at; side = v.side; long = r.long; people = r.people; weight = r.weight }
 
 abbrev pub woken : StoreStep Recovery → Registers → List ℕ → List ℕ → Step
 woken v r bs m = answers (act_for v.deed bs m) (stored (with_recovery v.state r) m)
@@ -79,10 +70,10 @@ abbrev pub header_came : Stage → Registers → List ℕ → List ℕ → Step
 header_came s r bs m = woken (hears s (head_in m) bs (recovery_of s r)) r bs (with_head (heard_head s (head_in m) bs) m)
 
 abbrev pub waking_page : Stage → Registers → List ℕ → List ℕ → Step
-waking_page s r bs m = cond (awaits_header s) (header_came s r bs m) (cond (is_side r.side) (woken_if (page_of (recovery_of s r) (head_in m)) r bs m) (fault m))
+waking_page s r bs m = cond (awaits_header s) (header_came s r bs m) (woken_if (page_of (recovery_of s r) (head_in m)) r bs m)
 
 abbrev pub waking_next : Stage → Registers → List ℕ → Step
-waking_next s r m = cond (is_side r.side) (woken_if (next_of (recovery_of s r) (head_in m)) r [] m) (fault m)
+waking_next s r m = woken_if (next_of (recovery_of s r) (head_in m)) r [] m
 
 -- in another phase, from one page or slot on
 abbrev pub scanning : ℕ → ℕ → Registers → Registers

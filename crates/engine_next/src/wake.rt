@@ -7,7 +7,7 @@ ghost use Rattle.pages.specs.Deeds.{Bounded, in_content};
 ghost use Rattle.pages.specs.Waking.{awaits_header, heard_head, hears};
 ghost use Rattle.engine.specs.Acts.{Outcome, out_of, told, told_of};
 ghost use Rattle.engine_next.specs.Memory.{head_in, with_head};
-ghost use Rattle.engine_next.specs.Own.{act_for, content_of, header_came, is_side, recovery_of, waking_next, waking_page, woken};
+ghost use Rattle.engine_next.specs.Own.{act_for, content_of, header_came, recovery_of, waking_next, waking_page, woken};
 
 use crate::phase::Phase;
 use crate::registers::{Housed, Registers, batch, head, put_head, store};
@@ -16,7 +16,6 @@ use engine::{Memory, Row};
 use pages::Page;
 use pages::deed::{Content, Deed, Step};
 use pages::heads::put_header;
-use pages::side::Side;
 use pages::waking::{Recovery, Stage};
 use pages::words::{blank_row, put_row};
 
@@ -69,34 +68,22 @@ fn carry(
         Registers {
             phase: Phase::Waking(state.stage).into(),
             at: state.at,
-            side: state.side.into(),
+            side: state.side,
             ..r
         },
     );
     Ok(act)
 }
 
-// Only 0 and 1 are sides, and a register may hold any number.
-fn is_side(number: u64) -> bool
-    ensures { result ≡ is_side number }
-{
-    number <= 1
-}
-
-// The recovery that the registers tell of. Where a header is heard the side does not matter, so other numbers count as the first.
+// The recovery that the registers tell of.
 fn recovery_of(stage: Stage, r: Registers) -> Recovery
     ensures { result ≡ recovery_of stage r }
 {
-    let side = if r.side == 1 {
-        Side::Second
-    } else {
-        Side::First
-    };
     Recovery {
         stage,
         pages: r.pages,
         at: r.at,
-        side,
+        side: r.side,
     }
 }
 
@@ -127,9 +114,6 @@ pub(crate) fn wake_page(
         let step = hear(memory, recovery, bytes);
         return carry(memory, r, step, bytes, out);
     }
-    if !is_side(r.side) {
-        return Err(Refusal::Fault);
-    }
     let Some(step) = recovery.page(head(memory)) else {
         return Err(Refusal::Fault);
     };
@@ -144,9 +128,6 @@ pub(crate) fn wake_next(
 ) -> Result<Act, Refusal>
     ensures turn { Outcome (waking_next stage r memory.old) result memory.new out.old out.new }
 {
-    if !is_side(r.side) {
-        return Err(Refusal::Fault);
-    }
     let Some(step) = recovery_of(stage, r).next(head(memory)) else {
         return Err(Refusal::Fault);
     };

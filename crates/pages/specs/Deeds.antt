@@ -1,5 +1,5 @@
 -- The two sides, and deeds whose numbers are in their ranges. Assumes nothing: these are definitions.
-use Rattle.std.specs.Prelude.{◌≡◌, ℕ, ◌+◌, ◌*◌, ◌<◌, MatchResult, Result}
+use Rattle.std.specs.Prelude.{◌≡◌, ℕ, ◌+◌, ◌*◌, ◌<◌, cond, ◌==◌, MatchResult, Result}
 use Rattle.pages.specs.declared.side.NoSide.{NoSide}
 use Rattle.pages.specs.declared.side.Side.{Side}
 use Rattle.pages.specs.declared.side.Side.TheVariants.{First, Second}
@@ -16,6 +16,10 @@ side_number Second = 1
 -- the side of a number, where it has one
 abbrev pub SideOf : ℕ → Result Side NoSide → Type 0
 SideOf n r = MatchResult r (λ s. n ≡ side_number s) (λ e. (1 < n) × (e.0 ≡ n))
+
+-- and of a number that has one or not: any but 1 counts as the first
+abbrev pub side_at : ℕ → Side
+side_at n = cond (n == 1) Second First
 
 abbrev pub other : Side → Side
 other First = Second

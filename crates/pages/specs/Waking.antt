@@ -3,7 +3,7 @@
 use Rattle.std.specs.Prelude.{ℕ, ◌+◌, Bool, true, false, cond, ◌&&◌, List, ◌∷◌, length, Some, None, Option, ◌==◌, nat_le, nat_lt, slice_index}
 use Rattle.pages.specs.Device.{zeros}
 use Rattle.pages.specs.Store.{heads_of, slot}
-use Rattle.pages.specs.Deeds.{other}
+use Rattle.pages.specs.Deeds.{other, side_at, side_number}
 use Rattle.pages.specs.declared.deed.Content.TheVariants.{Blank, Told, Header}
 use Rattle.pages.specs.declared.deed.Deed.{Deed}
 use Rattle.pages.specs.declared.deed.Step.{Step}
@@ -32,10 +32,10 @@ abbrev pub home_of : List ℕ → ℕ → Option ℕ
 home_of ws i = cond (nat_lt i 29 && nat_lt (slice_index ws (3 + i)) 1048576) (Some (59 + slice_index ws (3 + i))) None
 
 abbrev pub going : Stage → ℕ → Side → Deed → Recovery → Step Recovery
-going s k d a r = record { state = record { stage = s; pages = r.pages; at = k; side = d }; deed = a }
+going s k d a r = record { state = record { stage = s; pages = r.pages; at = k; side = side_number d }; deed = a }
 
 abbrev pub begun : ℕ → Step Recovery
-begun n = record { state = record { stage = Head First; pages = n; at = 0; side = First }; deed = Read First 0 }
+begun n = record { state = record { stage = Head First; pages = n; at = 0; side = 0 }; deed = Read First 0 }
 
 -- blank pages on the first device from one on, then its header
 abbrev pub wiped_from : ℕ → Recovery → Step Recovery
@@ -91,7 +91,7 @@ heard_head s ws bs = cond (is_second s) (chosen ws (heads_of bs)) (heads_of bs)
 
 -- every number is in its range
 abbrev pub in_range : Recovery → Bool
-in_range r = nat_le r.pages 1048576 && nat_le r.at 1048576
+in_range r = nat_le r.pages 1048576 && (nat_le r.at 1048576 && nat_le r.side 1)
 
 abbrev pub steady : Recovery → List ℕ → Bool
 steady r ws = in_range r && length ws == 32
@@ -102,7 +102,7 @@ homing (Some k) d r = Some (going (Home d) r.at First (Write d k Told) r)
 
 -- another page came
 abbrev pub page_at : Stage → List ℕ → Recovery → Option (Step Recovery)
-page_at Asking ws r = Some (going Copying r.at r.side (Write (other r.side) r.at Told) r)
+page_at Asking ws r = Some (going Copying r.at (side_at r.side) (Write (other (side_at r.side)) r.at Told) r)
 page_at (Slot d) ws r = homing (home_of ws r.at) d r
 page_at (Head d) ws r = None
 page_at Mending ws r = None
@@ -119,7 +119,7 @@ page_of r ws = cond (steady r ws) (page_at r.stage ws r) None
 abbrev pub next_at : Stage → List ℕ → Recovery → Option (Step Recovery)
 next_at Wiping ws r = Some (wiped_from (r.at + 1) r)
 next_at Marking ws r = Some (copied_from First 1 r)
-next_at Copying ws r = Some (copied_from r.side (r.at + 1) r)
+next_at Copying ws r = Some (copied_from (side_at r.side) (r.at + 1) r)
 next_at (Home First) ws r = Some (fetched Second ws r.at r)
 next_at (Home Second) ws r = Some (replayed_from ws (r.at + 1) r)
 next_at Mending ws r = Some (replayed_from ws 0 r)

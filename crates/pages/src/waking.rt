@@ -1,6 +1,6 @@
 // Power comes up: both devices are brought to be alike. Every step may be the last before a stop, and then all begins anew.
-ghost use Rattle.std.specs.Prelude.{◌≡◌, ◌≤◌, IfSome};
-ghost use Rattle.pages.specs.Deeds.{Bounded};
+ghost use Rattle.std.specs.Prelude.{◌≡◌, ◌≤◌, cond, IfSome, None, Some};
+ghost use Rattle.pages.specs.Deeds.{Bounded, side_at};
 ghost use Rattle.pages.specs.Waking.{awaits_header, begun, copied_from, fetched, going, hears, heard_head, page_of, next_of, in_range, replayed_from, wiped_from};
 
 use crate::Page;
@@ -35,7 +35,8 @@ pub struct Recovery {
     // The page or the slot at hand.
     pub at: u64,
     // The device that counts. Beside the stage and not in it: the machine keeps each in a number of its own, whatever the stage.
-    pub side: Side,
+    // Any number too: the two that need a side hand on nothing where it is none, and a header is heard whatever it is.
+    pub side: u64,
 }
 
 impl Recovery {
@@ -48,7 +49,7 @@ impl Recovery {
                 stage: Stage::Header(Side::First),
                 pages,
                 at: 0,
-                side: Side::First,
+                side: 0,
             },
             deed: Deed::Read(Side::First, 0),
         }
@@ -62,7 +63,7 @@ impl Recovery {
                 stage,
                 pages: self.pages,
                 at,
-                side,
+                side: side.into(),
             },
             deed,
         }
@@ -129,11 +130,14 @@ impl Recovery {
         self.going(Stage::Header(Side::First), 0, Side::First, Deed::Ready)
     }
 
-    // No number is out of its range.
-    fn is_in_range(self) -> bool
-        ensures { result ≡ in_range self }
+    // The device that counts, where no number is out of its range.
+    fn counting(self) -> Option<Side>
+        ensures { result ≡ cond (in_range self) (Some (side_at self.side)) None }
     {
-        self.pages <= 1048576 && self.at <= 1048576
+        if self.pages > 1048576 || self.at > 1048576 {
+            return None;
+        }
+        self.side.try_into().ok()
     }
 
     // Is it a header that is awaited?
@@ -177,16 +181,14 @@ impl Recovery {
         ensures bounded { IfSome result (λ v. Bounded v.deed) }
     {
         let head: &Header = head.try_into().ok()?;
-        if !self.is_in_range() {
-            return None;
-        }
+        let side = self.counting()?;
         // A match: each arm is a line of the definition for what is awaited.
         match self.stage {
             Stage::Asking => Some(self.going(
                 Stage::Copying,
                 self.at,
-                self.side,
-                Deed::Write(self.side.other(), self.at, Content::Told),
+                side,
+                Deed::Write(side.other(), self.at, Content::Told),
             )),
             Stage::Slot(side) => {
                 let page = home(head, self.at)?;
@@ -207,14 +209,12 @@ impl Recovery {
         ensures bounded { IfSome result (λ v. Bounded v.deed) }
     {
         let head: &Header = head.try_into().ok()?;
-        if !self.is_in_range() {
-            return None;
-        }
+        let side = self.counting()?;
         // A match: each arm is a line of the definition for what is awaited.
         match self.stage {
             Stage::Wiping => Some(self.wipe(self.at + 1)),
             Stage::Marking => Some(self.copy(Side::First, 1)),
-            Stage::Copying => Some(self.copy(self.side, self.at + 1)),
+            Stage::Copying => Some(self.copy(side, self.at + 1)),
             Stage::Home(Side::First) => Some(self.fetch(Side::Second, head, self.at)),
             Stage::Home(Side::Second) => Some(self.replay(head, self.at + 1)),
             Stage::Mending | Stage::Heading => Some(self.replay(head, 0)),
