@@ -17,7 +17,7 @@ side_number Second = 1
 abbrev pub SideOf : ℕ → Result Side NoSide → Type 0
 SideOf n r = MatchResult r (λ s. n ≡ side_number s) (λ e. (1 < n) × (e.0 ≡ n))
 
--- and of a number that has one or not: any but 1 counts as the first
+-- the side of any number: all but 1 count as the first
 abbrev pub side_at : ℕ → Side
 side_at n = cond (n == 1) Second First
 

@@ -35,7 +35,7 @@ pub struct Recovery {
     // The page or the slot at hand.
     pub at: u64,
     // The device that counts. Beside the stage and not in it: the machine keeps each in a number of its own, whatever the stage.
-    // Any number too: the two that need a side hand on nothing where it is none, and a header is heard whatever it is.
+    // Any number too: where it is no side, `page` and `next` have no next step, and a header is heard all the same.
     pub side: u64,
 }
 
