@@ -15,7 +15,7 @@ use Rattle.engine.specs.Own.{own, start_memory, pages_in, with_pages, a_house, a
 use Rattle.engine.specs.Promise.{Whole}
 use Rattle.std.proofs.lemmas.List.{length-replicate}
 
-start_length : length start_memory ≡ 262144
+pub start_length : length start_memory ≡ 262144
 unfolding start_memory
 start_length = length-replicate {A = ℕ} 262144 0
 

@@ -1,7 +1,7 @@
 -- A number read byte by byte.
-use Rattle.std.proofs.Common.{◌≡◌, ℕ, ◌+◌, ◌*◌, ◌^◌, ◌<◌, ◌≤◌, List, [], ◌∷◌, length, get_or, drop, pow-suc, add-one, arith, lit<}
+use Rattle.std.proofs.Common.{◌≡◌, ℕ, ◌+◌, ◌*◌, ◌^◌, ◌<◌, ◌≤◌, List, [], ◌∷◌, length, get_or, take, drop, sym, ap, ◌∙◌, pow-suc, add-one, arith, lit<}
 use native.Mathlib.Nat.{pow-le-pow_right}
-use Rattle.std.proofs.lemmas.List.{at_drop_more, at_drop_all}
+use Rattle.std.proofs.lemmas.List.{at_drop_more, at_drop_all, take_all}
 use Rattle.pages.specs.Bytes.{from_eight}
 
 pub byte_more : (n b i : ℕ) → n < 256 ^ i → b < 256 → 256 * n + b < 256 ^ (i + 1)
@@ -24,7 +24,7 @@ at_once bs =
     get_or bs 0 0 * 72057594037927936 + get_or bs 1 0 * 281474976710656 + get_or bs 2 0 * 1099511627776 + get_or bs 3 0 * 4294967296 + get_or bs 4 0 * 16777216 + get_or bs 5 0 * 65536 + get_or bs 6 0 * 256
     + get_or bs 7 0
 
-pub from_eight_at_once : (bs : List ℕ) → length bs ≡ 8 → from_eight 0 bs ≡ at_once bs
+pub from_eight_at_once : (bs : List ℕ) → 8 ≤ length bs → from_eight 0 (take 8 bs) ≡ at_once bs
 unfolding from_eight
 from_eight_at_once [] h = absurd (omega arith)
 from_eight_at_once (a ∷ []) h = absurd (omega arith)
@@ -34,5 +34,8 @@ from_eight_at_once (a ∷ b ∷ c ∷ d ∷ []) h = absurd (omega arith)
 from_eight_at_once (a ∷ b ∷ c ∷ d ∷ e ∷ []) h = absurd (omega arith)
 from_eight_at_once (a ∷ b ∷ c ∷ d ∷ e ∷ f ∷ []) h = absurd (omega arith)
 from_eight_at_once (a ∷ b ∷ c ∷ d ∷ e ∷ f ∷ g ∷ []) h = absurd (omega arith)
-from_eight_at_once (a ∷ b ∷ c ∷ d ∷ e ∷ f ∷ g ∷ i ∷ []) h = omega arith
-from_eight_at_once (a ∷ b ∷ c ∷ d ∷ e ∷ f ∷ g ∷ i ∷ j ∷ bs) h = absurd (omega arith)
+from_eight_at_once (a ∷ b ∷ c ∷ d ∷ e ∷ f ∷ g ∷ i ∷ bs) h = omega arith
+
+-- where there are no more
+pub eight_at_once : (bs : List ℕ) → length bs ≡ 8 → from_eight 0 bs ≡ at_once bs
+eight_at_once bs h = ap (from_eight 0) (sym (take_all 8 bs (omega arith))) ∙ from_eight_at_once bs (omega arith)

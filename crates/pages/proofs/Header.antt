@@ -3,14 +3,14 @@ use Rattle.std.proofs.Common.{◌≡◌, ℕ, zero, suc, ◌+◌, ◌*◌, ◌^�
 use native.Mathlib.Nat.{pow-le-pow_right}
 use Rattle.std.proofs.lemmas.Bool.{and_from, and_parts, eq-eqb, lt-ltb, ltb-true}
 use borrow.Rule.Slice.PartMut.{put_mid}
-use Rattle.std.proofs.lemmas.List.{append_assoc, append-nil, drop_all, drop_at, drop-drop, length-append, length-drop, length-take, length-take-le, take_all, take_at}
+use Rattle.std.proofs.lemmas.List.{append_assoc, append-nil, drop_all, drop_at, drop-drop, length-append, length-drop, length-take, length-take-le, take_all, take_at, take-take}
 use Rattle.std.specs.Simd.{first_chunks}
 use Rattle.pages.specs.Lists.{every, flat}
 use Rattle.pages.specs.Bytes.{all_bytes, eight, from_eight, over}
 use Rattle.pages.specs.Device.{Page, half, zeros, a_page}
 use Rattle.pages.specs.Fields.{number, at}
 use Rattle.pages.specs.Store.{head_number, mark, area, count, address, header_page, eights_of, heads_of, Heads}
-use Rattle.pages.proofs.ByteByByte.{at_once, byte_more, from_eight_at_once}
+use Rattle.pages.proofs.ByteByByte.{at_once, byte_more, eight_at_once}
 use Rattle.pages.proofs.ByteLists.{bytes_append, bytes_drop, bytes_eight, bytes_take, from_eight_eight, length_eight, take_eight}
 use Rattle.pages.proofs.Fields.{length_zeros}
 use Rattle.pages.proofs.Over.{length_eights}
@@ -171,14 +171,20 @@ pub new_a_page : a_page (header_page (1 ∷ zeros 31)) ≡ true
 unfolding zeros
 new_a_page = header_a_page (1 ∷ zeros 31) refl
 
--- the numbers of a header, as they are read from its page
+-- a number of a header, as it is read from its page
+pub head_read : (p : Page) (i k n : ℕ) → i < 32 → k ≡ 8 → n ≡ from_eight 0 (take 8 (take k (drop (256 + 8 * i) p))) → n ≡ get_or (heads_of p) i 0
+unfolding head_number at number
+head_read p i k n l e q =
+    q ∙ ap (λ j. from_eight 0 (take 8 (take j (drop (256 + 8 * i) p)))) e ∙ ap (from_eight 0) (take-take 8 8 (drop (256 + 8 * i) p) (omega arith)) ∙ sym (heads_number p i l)
+
+-- all of them at once
 eights_at_once : (k : ℕ) (bs : List ℕ) → 8 * k ≤ length bs → map at_once (first_chunks 8 k bs) ≡ eights_of k bs
 unfolding eights_of number
 eights_at_once zero bs h = refl
 eights_at_once (suc k) bs h =
     let l : length (take 8 bs) ≡ 8 = length-take-le 8 bs (omega arith) in
     let d = length-drop 8 bs in
-    rw (sym (from_eight_at_once (take 8 bs) l), eights_at_once k (drop 8 bs) (omega arith))
+    rw (sym (eight_at_once (take 8 bs) l), eights_at_once k (drop 8 bs) (omega arith))
 
 pub heads_at_once : (p : Page) (cs : List (List ℕ)) (k : ℕ) (old : List ℕ) → length p ≡ 512 → length old ≡ 32 → k ≡ 32 → cs ≡ first_chunks 8 k (take 256 (drop 256 p)) →
     map at_once cs ++ drop (length cs) old ≡ heads_of p

@@ -1,6 +1,7 @@
 -- The front of a row overwritten, element by element, and by numbers of eight bytes.
-use Rattle.std.proofs.Common.{◌≡◌, ℕ, zero, suc, ◌+◌, ◌*◌, ◌<◌, List, [], ◌∷◌, ◌++◌, map, length, get_or, take, drop, set, replicate, sym, refl, ap, ◌∙◌, arith}
-use Rattle.std.proofs.lemmas.List.{take_more, drop_more, set_at, length-append, append_assoc, length-take-le, length-map, map_more}
+use Rattle.std.proofs.Common.{◌≡◌, ℕ, zero, suc, ◌+◌, ◌*◌, ◌<◌, ◌≤◌, List, [], ◌∷◌, ◌++◌, map, length, get_or, take, drop, set, replicate, sym, refl, ap, ◌∙◌, arith}
+use borrow.Rule.Slice.PartMut.{put_mid}
+use Rattle.std.proofs.lemmas.List.{take_more, take_all, drop_more, set_at, length-append, append_assoc, append-nil, length-take-le, length-map, map_more, drop-drop, drop_at, take_at}
 use Rattle.pages.specs.Lists.{flat}
 use Rattle.pages.specs.Bytes.{eight, over}
 use Rattle.pages.specs.Device.{zeros}
@@ -22,6 +23,25 @@ over_map_more f xs ys i d e h k =
 pub length_eights : (ns : List ℕ) → length (flat eight ns) ≡ 8 * length ns
 length_eights [] = refl
 length_eights (n ∷ ns) = let l = length_eight n in let e = length_eights ns in let a = length-append (eight n) (flat eight ns) in omega arith
+
+pub eights_push : (ns : List ℕ) (n : ℕ) → flat eight (ns ++ n ∷ []) ≡ flat eight ns ++ eight n
+eights_push [] n = append-nil (eight n)
+eights_push (m ∷ ns) n = rw (eights_push ns n) (sym (append_assoc (eight m) (flat eight ns) (eight n)))
+
+pub eights_more : (ns xs old ys : List ℕ) (i k : ℕ) → i < length ns → 8 * length ns ≤ length old → xs ≡ flat eight (take i ns) ++ drop (8 * i) old → k ≡ 8 → ys ≡ eight (get_or ns i 0) →
+    put_mid (8 * i) k xs ys ≡ flat eight (take (i + 1) ns) ++ drop (8 * (i + 1)) old
+eights_more ns xs old ys i k h l e ke y =
+    let le : length (flat eight (take i ns)) ≡ 8 * i = length_eights (take i ns) ∙ ap (λ j. 8 * j) (length-take-le i ns (omega arith)) in
+    let t : take (8 * i) xs ≡ flat eight (take i ns) = rw e (take_at _ _ _ le) in
+    let d : drop (8 * i) xs ≡ drop (8 * i) old = rw e (drop_at _ _ _ le) in
+    let q : drop k (drop (8 * i) xs) ≡ drop (8 * (i + 1)) old = rw (ke, d, drop-drop) (ap (λ j. drop j old) (omega arith)) in
+    let p : flat eight (take (i + 1) ns) ≡ flat eight (take i ns) ++ eight (get_or ns i 0) = rw (take_more ns i 0 h) (eights_push _ _) in
+    rw (t, y, q, p) (sym (append_assoc (flat eight (take i ns)) (eight (get_or ns i 0)) _))
+
+pub eights_all : (ns xs old : List ℕ) (i : ℕ) → length ns ≤ i → i ≤ length ns → xs ≡ flat eight (take i ns) ++ drop (8 * i) old → xs ≡ over (flat eight ns) old
+eights_all ns xs old i h l e =
+    let n : 8 * i ≡ length (flat eight ns) = simp length_eights (omega arith) in
+    e ∙ rw (take_all i ns h, n)
 
 -- a blank front
 zeros_are : (n : ℕ) → zeros n ≡ replicate n 0

@@ -1,13 +1,13 @@
 use Rattle.std.proofs.Common.{◌+◌, ◌*◌, ◌<◌, drop, length, sym, ap, ◌∙◌, arith}
 use Rattle.std.proofs.lemmas.List.{length-take-le, take_all}
 use Rattle.pages.specs.Bytes.{from_eight}
-use Rattle.pages.proofs.ByteByByte.{byte_more, fits_byte, from_eight_more, from_eight_all, from_eight_at_once}
+use Rattle.pages.proofs.ByteByByte.{byte_more, fits_byte, from_eight_more, from_eight_all, eight_at_once}
 use Rattle.pages.proofs.bytes.number.Goals as goal
 
 pub returns-in-Some : goal.returns-in-Some
 returns-in-Some c =
     let first = c.in-Some.ensures.cases in
-    c.from_be_bytes.ensures ∙ sym (from_eight_at_once _ (ap length first.same ∙ length-take-le 8 _ first.enough)) ∙ ap (from_eight 0) first.same
+    c.from_be_bytes.ensures ∙ sym (eight_at_once _ (ap length first.same ∙ length-take-le 8 _ first.enough)) ∙ ap (from_eight 0) first.same
 
 pub overflow_mul-n : goal.overflow_mul-n
 overflow_mul-n c =
