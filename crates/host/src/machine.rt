@@ -1,5 +1,5 @@
 // The machine beside its devices: what it is told, and the acts that it does one after the other.
-ghost use Rattle.std.specs.Prelude.{◌≡◌, Ok, vec_len};
+ghost use Rattle.std.specs.Prelude.{◌≡◌, Ok, replicate, vec_len};
 ghost use Rattle.host.specs.Ends.{end_number};
 ghost use Rattle.host.specs.declared.machine.Unwritten.TheVariants.{Io};
 
@@ -115,7 +115,7 @@ impl Machine {
         })
     }
 
-    // Power comes: memory is all 0 then. The same is promised here, of a command and of a run, as it is handed on.
+    // Power comes: memory is all 0 then, as it was made or as a stop left it. The same is promised here, of a command and of a run, as it is handed on.
     pub fn power<D: Devices, S: Shows>(
         &mut self,
         most: u64,
@@ -124,8 +124,14 @@ impl Machine {
     ) -> io::Result<End>
         ensures none { most ≡ 0 → result ≡ Ok End.StillRunning }
     {
-        self.memory.as_mut_slice().fill(0);
         self.run(Event::On(devices.pages()), most, devices, rows)
+    }
+
+    // Power stops, and memory is lost.
+    pub fn stop(&mut self)
+        ensures { self.new.memory.items ≡ replicate 262144 0 }
+    {
+        self.memory.as_mut_slice().fill(0);
     }
 
     // A command is said.

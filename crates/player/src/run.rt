@@ -5,7 +5,7 @@ ghost use Rattle.pages.specs.Run.{proper_so};
 ghost use Rattle.player.specs.Items.{item_of};
 
 use crate::devices::Devices;
-use crate::script::Item;
+use crate::script::{Item, Left};
 use host::machine::{End, MOST_ACTS, Machine, Shows};
 use pages::hex;
 use pages::side::Side;
@@ -89,7 +89,7 @@ impl House {
             }
             Item::PowerStops { acts, left } => {
                 let ran = self.power(*acts, answer)?;
-                self.devices.stop(*left);
+                self.stop(*left);
                 ran
             }
             Item::Whole(command) => self.say(command.as_slice(), MOST_ACTS, answer)?,
@@ -99,7 +99,7 @@ impl House {
                 left,
             } => {
                 let ran = self.say(command.as_slice(), *acts, answer)?;
-                self.devices.stop(*left);
+                self.stop(*left);
                 self.up = false;
                 ran
             }
@@ -124,6 +124,12 @@ impl House {
         self.devices.begin();
         let end = self.machine.say(command, most, &mut self.devices, answer)?;
         Ok(self.ran(end))
+    }
+
+    // What a stop leaves of the write under way, and of memory nothing.
+    fn stop(&mut self, left: Left) {
+        self.devices.stop(left);
+        self.machine.stop();
     }
 
     fn ran(&self, end: End) -> Ran {
