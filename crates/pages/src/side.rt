@@ -1,5 +1,5 @@
 // The two devices, side by side.
-ghost use Rattle.std.specs.Prelude.{◌≡◌};
+ghost use Rattle.std.specs.Prelude.{◌≡◌, ◌++◌, Some, codes, decimal};
 ghost use Rattle.pages.specs.Deeds.{SideOf, other, side_number};
 
 use std::error::Error;
@@ -53,6 +53,8 @@ impl TryFrom<u64> for Side {
 }
 
 impl fmt::Display for NoSide {
+    ghost output = { λ e. Some (codes "no side has number " ++ decimal e.0) };
+
     fn fmt<W: fmt::Write>(&self, f: &mut fmt::Formatter<W>) -> fmt::Result {
         write!(f, "no side has number {}", self.0)
     }
