@@ -36,7 +36,14 @@ fn put_numbers(out: &mut [u8], at: usize, ns: &[u64]) -> usize
 fn day_count(days: Weekdays) -> u64
     ensures { result ≡ length (days_of days) }
 {
-    (0..7).filter(|day| days.has(*day)).count() as u64
+    // A loop for speed: by a filter that is counted it takes longer.
+    let mut count = 0;
+    for day in 0..7 {
+        if days.has(day) {
+            count += 1;
+        }
+    }
+    count
 }
 
 // Weekdays by number with their count before them; the place behind them.

@@ -21,7 +21,14 @@ fn on_before(weekdays: Weekdays, end: u64) -> u64
     requires { end ≤ 7 }
     ensures { (result ≡ on_before (has (days_of weekdays)) end) × (result ≤ end) }
 {
-    (0..end).filter(|&day| weekdays.has(day)).count() as u64
+    // A loop for speed: by a filter that is counted it takes longer.
+    let mut count = 0;
+    for day in 0..end {
+        if weekdays.has(day) {
+            count += 1;
+        }
+    }
+    count
 }
 
 impl Rule {
