@@ -115,7 +115,8 @@ impl Machine {
         })
     }
 
-    // Power comes: memory is all 0 then, as it was made or as a stop left it. The same is promised here, of a command and of a run, as it is handed on.
+    // Power comes: memory is all 0 then, as it was made, or as `stop` left it, which is called in between. The same is promised here, of a command
+    // and of a run, as it is handed on.
     pub fn power<D: Devices, S: Shows>(
         &mut self,
         most: u64,

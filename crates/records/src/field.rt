@@ -78,6 +78,7 @@ pub(crate) fn field_at<N: Field>(bytes: &[u8], at: usize, lo: N, hi: N) -> Optio
 }
 
 // So many pieces of a width, with their count before them, the count within bounds.
+#[inline(always)]
 fn part_at<const WIDTH: usize>(
     bytes: &[u8],
     at: usize,
@@ -120,6 +121,7 @@ fn rises(numbers: &[u8], lo: u64, hi: u64) -> bool
 }
 
 // Rising numbers with their count before them, the count within bounds.
+#[inline(always)]
 pub(crate) fn row_at(
     bytes: &[u8],
     at: usize,
@@ -141,6 +143,7 @@ pub(crate) fn row_at(
 }
 
 // The weekdays that numbers of eight bytes name.
+#[inline(always)]
 fn marked(numbers: &[u8]) -> Weekdays
     ensures { result ≡ marks (length numbers.now / 8) numbers.now 0 no_days }
 {
@@ -152,6 +155,7 @@ fn marked(numbers: &[u8]) -> Weekdays
 }
 
 // Weekdays by rising number, with their count before them.
+#[inline(always)]
 pub(crate) fn weekdays_at(bytes: &[u8], at: usize) -> Option<(Weekdays, usize)>
     ensures { result ≡ weekdays bytes.now at }
 {

@@ -99,6 +99,7 @@ impl Weekdays {
     }
 
     // These and the one of a number, from 0 for Monday; no other number names one.
+    #[inline(always)]
     pub fn with(self, day: u64) -> Weekdays
         ensures { result ≡ with_day day self }
     {
